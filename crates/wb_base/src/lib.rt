@@ -1,0 +1,10 @@
+//! The types that every crate of Workbench speaks of: lists and texts that contracts see as plain data.
+#![tactic(auto)]
+
+mod duplicate;
+mod lists;
+mod texts;
+
+pub use duplicate::Duplicate;
+pub use lists::List;
+pub use texts::Text;
