@@ -7,4 +7,4 @@ mod texts;
 
 pub use duplicate::Duplicate;
 pub use lists::List;
-pub use texts::Text;
+pub use texts::{Text, is_text};
