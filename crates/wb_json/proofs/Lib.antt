@@ -1,0 +1,4 @@
+pub mod Escapes
+pub mod JsonTexts
+pub mod Turns
+pub mod Views

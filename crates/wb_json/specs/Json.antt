@@ -1,0 +1,9 @@
+-- What a text is as JSON (RFC 8259).
+use Rattle.std.specs.Prelude.{ℕ, List, Option, None, if◌then◌else◌}
+use Rattle.std.specs.Str.{is_utf8}
+use Rattle.serde_json.specs.Data.{Data}
+use Rattle.serde_json.specs.Read.{read}
+
+-- the value that the bytes spell, and none where they are no JSON
+unfoldable pub json_of : List ℕ → Option Data
+json_of bytes = if is_utf8 bytes then read bytes else None

@@ -1,0 +1,5 @@
+pub mod Form
+pub mod Json
+pub mod NoFloats
+pub mod Place
+pub mod ToJson

@@ -1,0 +1,27 @@
+//! JSON: reading a value of some form, or naming its first wrong place; and writing one.
+#![tactic(auto)]
+
+mod choices;
+mod form;
+mod member_names;
+mod members;
+mod names;
+mod objects;
+mod pointer;
+mod sequences;
+#[cfg(test)]
+mod tests;
+mod texts;
+mod to_json;
+mod wrong;
+
+pub use choices::chosen;
+pub use form::Form;
+pub use member_names::listed;
+pub use members::Members;
+pub use names::{Name, is_name};
+pub use objects::{has, list_or_empty, needed, optional};
+pub use serde_json::Value;
+pub use texts::{parse_json, write_json};
+pub use to_json::{ToJson, to_text};
+pub use wrong::Wrong;

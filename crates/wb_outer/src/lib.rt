@@ -1,0 +1,36 @@
+//! The outside of the workbench: files, peers, kept rows and output, each behind a trait whose contract
+//! says what a call may answer and what it leaves. Forms in memory and adapters implement the traits.
+#![tactic(auto)]
+
+mod bytes;
+mod door;
+mod faults;
+mod file_shelf;
+mod keeper;
+mod memory_shelf;
+mod memory_sink;
+mod shelf;
+mod sink;
+mod stdout_sink;
+mod steps;
+mod sure_door;
+mod sure_keeper;
+mod sure_shelf;
+mod sure_sink;
+#[cfg(test)]
+mod tests;
+
+pub use bytes::Bytes;
+pub use door::{Door, Got, Next};
+pub use file_shelf::FileShelf;
+pub use keeper::{Committed, Keeper, Loaded, Row, RowChange};
+pub use memory_shelf::MemoryShelf;
+pub use memory_sink::MemorySink;
+pub use shelf::{Shelf, Taken};
+pub use sink::{Sink, Wrote};
+pub use stdout_sink::StdoutSink;
+pub use steps::Steps;
+pub use sure_door::SureDoor;
+pub use sure_keeper::SureKeeper;
+pub use sure_shelf::SureShelf;
+pub use sure_sink::SureSink;
