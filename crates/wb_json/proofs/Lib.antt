@@ -1,3 +1,4 @@
+pub mod Ascending
 pub mod Escapes
 pub mod JsonTexts
 pub mod Turns

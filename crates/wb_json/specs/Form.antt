@@ -106,12 +106,12 @@ list_of form d = or_wrong (as_array d) >>= (λ ds. in_turn (item_of form) (enume
 
 -- ---- objects
 
--- the members in order; those of a text that was read ascend by the bytes of their names
+-- the members in order; those of a text that was read ascend by the bytes of their names (`json_of_ascends`)
 abbrev pub member_list : Members → List (List ℕ × Data)
 member_list no_members = []
 member_list (member k d ms) = (k, d) ∷ member_list ms
 
--- the first member whose name does not pass
+-- the first member whose name does not pass, which has the least of those names (`names_pass_least`)
 abbrev pub names_pass : (List ℕ → Bool) → Members → Result ⊤ Place
 names_pass p no_members = Ok tt
 names_pass p (member k d ms) = if p k then names_pass p ms else at_member k (Err [])

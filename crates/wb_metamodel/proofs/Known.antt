@@ -1,0 +1,28 @@
+-- What a look-up finds is one of the metamodel's.
+use Rattle.std.proofs.Common.{◌≡◌, ℕ, ◌<◌, List, length, Option, Some, None, get_or, refl, sym, ap, ◌∙◌}
+use Rattle.std.specs.Prelude.{All}
+use Rattle.std.specs.Option.{option_and_then}
+use Rattle.std.specs.List.{slice_get, position}
+use Rattle.std.proofs.lemmas.Option.{none-some, slice_get_within}
+use Rattle.wb_metamodel.specs.declared.classes.Class.{Class}
+use Rattle.wb_metamodel.specs.declared.classes.Enumeration.{Enumeration}
+use Rattle.wb_metamodel.specs.Metamodel.{Metamodel, same_name, class_named, enum_named, literal_named, feature_named, features_of, literals_of, enum_at}
+use Rattle.wb_metamodel.specs.Checks.{is_name_of}
+use Rattle.wb_metamodel.proofs.Positions.{position-Some}
+use Rattle.wb_metamodel.proofs.Inherit.{find-member, of-member, member-at}
+
+pub class-known : (mm : Metamodel) (name : List ℕ) (c : ℕ) → class_named mm name ≡ Some c → c < length mm.classes
+class-known mm name c h =
+    let found = position-Some (λ (class : Class). same_name class.name name) mm.classes c h in
+    slice_get_within mm.classes c found.0 found.1
+
+pub enum-known : (mm : Metamodel) (name : List ℕ) (e : ℕ) → enum_named mm name ≡ Some e → e < length mm.enumerations
+enum-known mm name e h =
+    let found = position-Some (λ (one : Enumeration). same_name one.name name) mm.enumerations e h in
+    slice_get_within mm.enumerations e found.0 found.1
+
+pub feature-known : (mm : Metamodel) (c : ℕ) (name : List ℕ) (f : ℕ) → feature_named mm c name ≡ Some f → f < length mm.features
+feature-known mm c name f h = of-member mm c f (find-member (is_name_of mm name) (features_of mm c) f h)
+
+pub features-known : (mm : Metamodel) (c : ℕ) → All (λ f. f < length mm.features) (features_of mm c)
+features-known mm c = λ k d l. of-member mm c (get_or (features_of mm c) k d) (member-at (features_of mm c) k d l)

@@ -1,0 +1,8 @@
+use Rattle.std.proofs.Common.{◌≡◌, ◌-◌, length}
+use Rattle.std.specs.List.{find, range_with_len}
+use Rattle.wb_metamodel.specs.Metamodel.{numbers, is_below}
+use Rattle.wb_metamodel.proofs.checking.first_cycle.Given as goal
+
+abbrev pub invariant-loop-class : goal.invariant-loop-class
+invariant-loop-class l =
+    find (λ c. is_below l.content c c) (numbers (length l.content.classes)) ≡ find (λ c. is_below l.content c c) (range_with_len l.class (length l.content.classes - l.class))

@@ -1,0 +1,109 @@
+-- A metamodel, after Ecore: classes with supertypes, features and enumerations.
+-- The number of a class, a feature or an enumeration is its place in these lists.
+use Rattle.std.specs.Prelude.{ℕ, Bool, false, ◌||◌, nat_eq, IsTrue, List, [], ◌∷◌, ◌++◌, length, filter, find, slice_get, Option, Some, None, option_and_then, sum_by, zero, suc, not, if◌then◌else◌}
+use Rattle.std.specs.Option.{option_map_or}
+use Rattle.std.specs.List.{list_any, flat_map, position, range_with_len}
+use Rattle.std.specs.Cmp.Lexicographic.{pointwise}
+use Rattle.wb_metamodel.specs.declared.classes.Class.{Class}
+use Rattle.wb_metamodel.specs.declared.content.Content.{Content}
+use Rattle.wb_metamodel.specs.declared.classes.Enumeration.{Enumeration}
+use Rattle.wb_metamodel.specs.declared.features.Feature.{Feature}
+
+-- a metamodel: the name of its package, its classes, its features and its enumerations
+abbrev pub Metamodel : Type 0
+Metamodel = Content
+
+abbrev pub same_name : List ℕ → List ℕ → Bool
+same_name = pointwise nat_eq
+
+-- the numbers below n, ascending
+abbrev pub numbers : ℕ → List ℕ
+numbers n = range_with_len 0 n
+
+-- ---- the hierarchy of classes
+
+-- the direct supertypes of a class, in order
+abbrev pub supertypes_of : Metamodel → ℕ → List ℕ
+supertypes_of mm c = option_map_or (λ (class : Class). class.supertypes) (slice_get mm.classes c) []
+
+-- is b a direct supertype of a?
+abbrev pub is_supertype : Metamodel → ℕ → ℕ → Bool
+is_supertype mm a b = list_any (nat_eq b) (supertypes_of mm a)
+
+-- a path of supertypes leads from the one class to the other, also the empty path (Ecore: `isSuperTypeOf`)
+pub data Conforms (mm : Metamodel) : ℕ → ℕ → Type 0 where
+  itself : {a : ℕ} → Conforms mm a a
+  upwards : {a b c : ℕ} → IsTrue (is_supertype mm a b) → Conforms mm b c → Conforms mm a c
+
+-- does a path of one or more steps lead from a to b, that has between its ends classes of this list alone?
+unfoldable pub leads_through : Metamodel → List ℕ → ℕ → ℕ → Bool
+leads_through mm [] a b = is_supertype mm a b
+leads_through mm (k ∷ ks) a b = leads_through mm ks a b || (if leads_through mm ks a k then leads_through mm ks k b else false)
+
+-- does a path of one or more steps lead from a to b?
+unfoldable pub is_below : Metamodel → ℕ → ℕ → Bool
+is_below mm a b = leads_through mm (numbers (length mm.classes)) a b
+
+-- the same test with the empty path; for every metamodel it holds exactly where `Conforms` does
+unfoldable pub conforms : Metamodel → ℕ → ℕ → Bool
+conforms mm a b = nat_eq a b || is_below mm a b
+
+-- ---- the features of a class
+
+-- each number at its first place alone
+abbrev pub first_places : List ℕ → List ℕ
+first_places [] = []
+first_places (x ∷ xs) = x ∷ filter (λ y. not (nat_eq x y)) (first_places xs)
+
+-- the features that a class declares itself, in document order
+abbrev pub own_features : Metamodel → ℕ → List ℕ
+own_features mm c = filter (λ f. option_map_or (λ (feature : Feature). nat_eq feature.owner c) (slice_get mm.features f) false) (numbers (length mm.features))
+
+-- the features of a class that has at most n classes above each other up to its roots:
+-- inherited ones first, supertype by supertype, own ones last
+unfoldable pub features_within : Metamodel → ℕ → ℕ → List ℕ
+features_within mm zero c = []
+features_within mm (suc n) c = first_places (flat_map (features_within mm n) (supertypes_of mm c) ++ own_features mm c)
+
+-- without a cycle no more classes stand above each other than there are
+unfoldable pub features_of : Metamodel → ℕ → List ℕ
+features_of mm c = features_within mm (length mm.classes) c
+
+-- does an opposite name this feature?
+abbrev pub names_feature : Option ℕ → ℕ → Bool
+names_feature None f = false
+names_feature (Some g) f = nat_eq g f
+
+-- ---- look-ups
+
+abbrev pub feature_at : Metamodel → ℕ → Option Feature
+feature_at mm f = slice_get mm.features f
+
+abbrev pub class_at : Metamodel → ℕ → Option Class
+class_at mm c = slice_get mm.classes c
+
+-- the class of that name
+abbrev pub class_named : Metamodel → List ℕ → Option ℕ
+class_named mm name = position (λ (class : Class). same_name class.name name) mm.classes
+
+abbrev pub enum_named : Metamodel → List ℕ → Option ℕ
+enum_named mm name = position (λ (enumeration : Enumeration). same_name enumeration.name name) mm.enumerations
+
+-- the feature of that name among all features of a class, inherited ones included
+abbrev pub feature_named : Metamodel → ℕ → List ℕ → Option ℕ
+feature_named mm c name = find (λ f. option_map_or (λ (feature : Feature). same_name feature.name name) (feature_at mm f) false) (features_of mm c)
+
+-- the literal of that name within an enumeration
+abbrev pub literal_named : Metamodel → ℕ → List ℕ → Option ℕ
+literal_named mm e name = option_and_then (λ (enumeration : Enumeration). position (λ literal. same_name literal name) enumeration.literals) (slice_get mm.enumerations e)
+
+abbrev pub enum_at : Metamodel → ℕ → Option Enumeration
+enum_at mm e = slice_get mm.enumerations e
+
+-- the literals of an enumeration, in order
+abbrev pub literals_of : Metamodel → ℕ → List (List ℕ)
+literals_of mm e = option_map_or (λ (enumeration : Enumeration). enumeration.literals) (enum_at mm e) []
+
+-- how many literals all enumerations have together
+abbrev pub literal_total : Metamodel → ℕ
+literal_total mm = sum_by (λ (enumeration : Enumeration). length enumeration.literals) mm.enumerations

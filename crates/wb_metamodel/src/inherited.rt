@@ -1,0 +1,151 @@
+ghost use Rattle.std.specs.Prelude.{◌≡◌, ◌<◌, ◌≤◌, ◌+◌, ◌++◌, ◌^◌, ℕ, true, false, [], length, map, count_by, All, IfOk, OnOk, nat_eq, slice_index_or};
+ghost use Rattle.std.specs.List.{list_any, flat_map};
+ghost use Rattle.wb_metamodel.specs.Metamodel as definition;
+ghost use Rattle.wb_metamodel.specs.Tables.{below_table, features_table, rank_of};
+ghost use Rattle.wb_metamodel.specs.Inherited.{IsHierarchy, FilledTo, all_features};
+
+use crate::content::Content;
+use crate::numbers::{ClassId, FeatureId};
+use std::alloc::{AllocError, Global};
+use wb_base::List;
+
+/// The features of each class, where no class is its own supertype.
+pub fn features_table(
+    alloc: Global,
+    content: &Content,
+    below: &[List<bool>],
+) -> Result<List<List<FeatureId>>, AllocError>
+    requires below { below.now ≡ below_table content.now }
+    requires hierarchy { IsHierarchy content.now }
+    ensures { IfOk result (λ table. table ≡ features_table content.now) }
+{
+    let ranks = ranks(alloc, below)?;
+    let mut table = empty_table(alloc, content.classes.len())?;
+    for rank in 0..content.classes.len() {
+        fill_rank(alloc, content, ranks.as_slice(), rank, &mut table)?;
+    }
+    Ok(List::from_vec(table))
+}
+
+/// How many classes stand above each class.
+fn ranks(alloc: Global, below: &[List<bool>]) -> Result<Vec<usize>, AllocError>
+    ensures { IfOk result (λ ranks. ranks.items ≡ map (λ row. count_by (λ reached. reached) row) below.now) }
+{
+    let mut ranks = Vec::new(alloc);
+    for row in below {
+        ranks.push(count_true(row.as_slice()))?;
+    }
+    Ok(ranks)
+}
+
+fn count_true(row: &[bool]) -> usize
+    ensures { result ≡ count_by (λ reached. reached) row.now }
+{
+    row.iter().filter(|reached| **reached).count()
+}
+
+fn empty_table(alloc: Global, count: usize) -> Result<Vec<List<FeatureId>>, AllocError>
+    ensures { IfOk result (λ table. length table.items ≡ count) }
+{
+    let mut table = Vec::new(alloc);
+    'rows: while table.len() < count {
+        table.push(List::new(alloc))?;
+    }
+    Ok(table)
+}
+
+/// Fills in the features of the classes of a rank, where those of the lower ranks are filled in.
+fn fill_rank(
+    alloc: Global,
+    content: &Content,
+    ranks: &[usize],
+    rank: usize,
+    table: &mut Vec<List<FeatureId>>,
+) -> Result<(), AllocError>
+    requires hierarchy { IsHierarchy content.now }
+    requires ranks { ranks.now ≡ map (rank_of content.now) (definition.numbers (length content.now.classes)) }
+    requires filled { FilledTo content.now table.old.items rank }
+    ensures { OnOk result (FilledTo content.now table.new.items (rank + 1)) }
+{
+    for class in 0..ranks.len() {
+        if ranks[class] == rank {
+            let features = features_of(alloc, content, table.as_slice(), ClassId(class as u32))?;
+            table[class] = features;
+        }
+    }
+    Ok(())
+}
+
+/// The features of a class, where those of its supertypes stand in the table.
+fn features_of(
+    alloc: Global,
+    content: &Content,
+    table: &[List<FeatureId>],
+    class: ClassId,
+) -> Result<List<FeatureId>, AllocError>
+    requires class { class < length content.now.classes }
+    requires features { length content.now.features < 2 ^ 32 }
+    requires supertypes { (s : ℕ) → definition.is_supertype content.now class s ≡ true → s < length table.now }
+    requires known { (f : ℕ) → list_any (nat_eq f) (all_features content.now table.now class) ≡ true → f < length content.now.features }
+    ensures { IfOk result (λ features. features ≡ definition.first_places (all_features content.now table.now class)) }
+{
+    let mut all = of_supertypes(
+        alloc,
+        content.classes.as_slice()[class.0 as usize]
+            .supertypes
+            .as_slice(),
+        table,
+    )?;
+    push_own(&mut all, content, class)?;
+    first_places(alloc, all.as_slice(), content.features.len())
+}
+
+fn of_supertypes(
+    alloc: Global,
+    supertypes: &[ClassId],
+    table: &[List<FeatureId>],
+) -> Result<Vec<FeatureId>, AllocError>
+    requires { (s : ℕ) → list_any (nat_eq s) supertypes.now ≡ true → s < length table.now }
+    ensures { IfOk result (λ all. all.items ≡ flat_map (λ s. slice_index_or table.now s []) supertypes.now) }
+{
+    let mut all = Vec::new(alloc);
+    for supertype in supertypes {
+        let s = *supertype;
+        all.extend_from_slice(table[s.0 as usize].as_slice())?;
+    }
+    Ok(all)
+}
+
+/// Puts the features that a class declares itself last.
+fn push_own(all: &mut Vec<FeatureId>, content: &Content, class: ClassId) -> Result<(), AllocError>
+    requires { length content.now.features < 2 ^ 32 }
+    ensures { OnOk result (all.new.items ≡ all.old.items ++ definition.own_features content.now class) }
+{
+    for (number, feature) in content.features.as_slice().iter().enumerate() {
+        if feature.owner == class {
+            all.push(FeatureId(number as u32))?;
+        }
+    }
+    Ok(())
+}
+
+/// Each number at its first place alone.
+fn first_places(
+    alloc: Global,
+    all: &[FeatureId],
+    count: usize,
+) -> Result<List<FeatureId>, AllocError>
+    requires { All (λ f. f < count) all.now }
+    ensures { IfOk result (λ first. first ≡ definition.first_places all.now) }
+{
+    let mut seen = vec![in alloc; false; count]?;
+    let mut first = Vec::new(alloc);
+    for feature in all {
+        let f = *feature;
+        if !seen[f.0 as usize] {
+            seen[f.0 as usize] = true;
+            first.push(f)?;
+        }
+    }
+    Ok(List::from_vec(first))
+}

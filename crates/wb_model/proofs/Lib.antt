@@ -1,0 +1,14 @@
+pub mod ArrangedLemmas
+pub mod Climbing
+pub mod EmptyContents
+pub mod Found
+pub mod Shown
+pub mod HolderLemmas
+pub mod LinkLemmas
+pub mod Made
+pub mod Maps
+pub mod Members
+pub mod RootLemmas
+pub mod Steps
+pub mod ValidSlots
+pub mod ValidTest

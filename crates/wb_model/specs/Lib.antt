@@ -1,0 +1,16 @@
+pub mod Arranged
+pub mod Cells
+pub mod Checks
+pub mod Climbs
+pub mod Conditions
+pub mod Contents
+pub mod Flaws
+pub mod Links
+pub mod Parts
+pub mod Places
+pub mod Records
+pub mod Roots
+pub mod ScalarLaws
+pub mod Scalars
+pub mod Valid
+pub mod ValidTest

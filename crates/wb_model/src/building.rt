@@ -1,0 +1,82 @@
+ghost use Rattle.std.specs.Prelude.{◌≡◌, true, IfOk, OnOk, IfErr};
+ghost use Rattle.std.specs.List.{list_all};
+ghost use Rattle.wb_model.specs.Flaws.{refusal_of};
+ghost use Rattle.wb_model.specs.Parts.{AreParts, MakeModel, Refutes, made_of, is_listed, is_listed_slot, slot_of, are_known};
+ghost use Rattle.wb_model.specs.Records.{is_known_slot};
+
+use crate::checks::check_all;
+use crate::flaws::Flaw;
+use crate::model::Model;
+use crate::parts::{BuildRefusal, Part, SlotPart};
+use crate::store::Store;
+use std::alloc::Global;
+use wb_base::List;
+use wb_metamodel::{Metamodel, ObjectId};
+
+/// The model that parts make, or why they make none.
+pub fn build(
+    alloc: Global,
+    metamodel: Metamodel,
+    next: u32,
+    objects: List<Part>,
+    roots: List<ObjectId>,
+) -> Result<Model, BuildRefusal>
+    requires { AreParts metamodel objects }
+    ensures made { IfOk result (λ model. model ≡ made_of metamodel next objects roots) }
+    ensures accepted { OnOk result (MakeModel metamodel next objects roots) }
+    ensures refused { IfErr result (λ refusal. Refutes refusal (MakeModel metamodel next objects roots)) }
+{
+    let listed = are_listed(&metamodel, objects.as_slice());
+    let store = match Store::from_parts(alloc, metamodel, next, objects, roots) {
+        Ok(store) => store,
+        Err(_) => return Err(BuildRefusal::NoMemory),
+    };
+    match check_all(alloc, &store, listed) {
+        Ok(()) => Ok(Model::new(store)),
+        Err(flaw) => Err(refusal_of(flaw)),
+    }
+}
+
+fn refusal_of(flaw: Flaw) -> BuildRefusal
+    ensures { result ≡ refusal_of flaw }
+{
+    match flaw {
+        Flaw::At(number, object) => BuildRefusal::Broken(number, Some(object)),
+        Flaw::Whole(number) => BuildRefusal::Broken(number, None),
+        Flaw::NoMemory => BuildRefusal::NoMemory,
+    }
+}
+
+// Is each slot not empty, and written as a list exactly where its feature has many values?
+fn are_listed(metamodel: &Metamodel, parts: &[Part]) -> bool
+    requires { are_known metamodel.now parts.now ≡ true }
+    ensures { result ≡ list_all (is_listed metamodel.now) parts.now }
+{
+    for part in parts {
+        if !slots_are_listed(metamodel, part.slots.as_slice()) {
+            return false;
+        }
+    }
+    true
+}
+
+fn slots_are_listed(metamodel: &Metamodel, slots: &[SlotPart]) -> bool
+    requires { list_all (λ s. is_known_slot metamodel.now (slot_of s)) slots.now ≡ true }
+    ensures { result ≡ list_all (is_listed_slot metamodel.now) slots.now }
+{
+    for slot in slots {
+        if !slot_is_listed(metamodel, slot) {
+            return false;
+        }
+    }
+    true
+}
+
+fn slot_is_listed(metamodel: &Metamodel, slot: &SlotPart) -> bool
+    requires { is_known_slot metamodel.now (slot_of slot.now) ≡ true }
+    ensures { result ≡ is_listed_slot metamodel.now slot.now }
+{
+    let many = metamodel.feature(slot.feature).many;
+    let count = slot.values.len();
+    slot.listed == many && count > 0
+}

@@ -1,0 +1,26 @@
+//! Models: objects of a metamodel's classes, with the values of their features.
+#![tactic(auto)]
+
+mod arranged;
+mod building;
+mod checks;
+mod climbs;
+mod conditions;
+mod containment;
+mod flaws;
+mod holders;
+mod holding;
+mod links;
+mod model;
+mod parts;
+mod records;
+mod scalars;
+mod store;
+mod uncontained;
+mod validity;
+
+pub use building::build;
+pub use model::{Model, empty};
+pub use parts::{BuildRefusal, Part, SlotPart};
+pub use scalars::{Cell, Place, Scalar};
+pub use validity::validity_is_decided;

@@ -1,0 +1,110 @@
+ghost use Rattle.std.specs.Prelude.{◌≡◌, ◌==◌, ◌<◌, length, IfOk, IfSome};
+ghost use Rattle.std.specs.FinMap.{len};
+ghost use Rattle.wb_model.specs.Contents.{kind, slot, empty_contents};
+ghost use Rattle.wb_model.specs.Cells.{holder};
+ghost use Rattle.wb_model.specs.Valid.{IsValid};
+
+use crate::scalars::Scalar;
+use crate::store::Store;
+use std::alloc::{AllocError, Global};
+use wb_metamodel::{ClassId, FeatureId, Metamodel, ObjectId};
+
+/// A valid model: objects of a metamodel's classes, with the values of their features.
+#[derive(Drop)]
+pub struct Model {
+    store: Store,
+}
+
+impl std::marker::Model for Model {
+    ghost use Rattle.std.specs.Coded.{codes};
+    ghost use Rattle.std.specs.FinMap as map;
+    ghost use Rattle.wb_model.specs.Contents.{Contents};
+    ghost use Rattle.wb_model.specs.Valid.{IsValid};
+
+    ghost Value = { Contents };
+
+    ghost coded = { Prim.hlevel (codes, map.code) };
+
+    ghost view = { λ m. m.store };
+
+    ghost invariant = { λ m. IsValid m.store };
+}
+
+/// A model without objects, whose first object will have the number 1.
+pub fn empty(alloc: Global, metamodel: Metamodel) -> Result<Model, AllocError>
+    ensures { IfOk result (λ m. m ≡ empty_contents metamodel) }
+{
+    let store = Store::new(alloc, metamodel);
+    Ok(Model { store })
+}
+
+impl Model {
+    /// The model of objects that are valid.
+    pub(crate) fn new(store: Store) -> Model
+        requires { IsValid store }
+        ensures { result ≡ store }
+    {
+        Model { store }
+    }
+
+    /// What is true of every model.
+    pub fn valid(&self)
+        ensures { IsValid self.now }
+    {
+        let _ = &self.store;
+    }
+
+    pub fn metamodel(&self) -> &Metamodel
+        ensures { result.now ≡ self.now.metamodel }
+    {
+        self.store.metamodel()
+    }
+
+    /// The number that the next object gets.
+    pub fn next(&self) -> u32
+        ensures { result ≡ self.now.next }
+    {
+        self.store.next()
+    }
+
+    pub fn roots(&self) -> &[ObjectId]
+        ensures { result.now ≡ self.now.roots }
+    {
+        self.store.roots()
+    }
+
+    /// How many objects are live.
+    pub fn len(&self) -> usize
+        ensures { result ≡ len self.now.kinds }
+    {
+        self.store.len()
+    }
+
+    pub fn is_empty(&self) -> bool
+        ensures { result ≡ (len self.now.kinds == 0) }
+    {
+        self.store.len() == 0
+    }
+
+    /// The class of an object, none where it is not live.
+    pub fn kind(&self, o: ObjectId) -> Option<ClassId>
+        ensures value { result ≡ kind self.now o }
+        ensures known { IfSome result (λ c. c < length self.now.metamodel.classes) }
+    {
+        self.store.kind(o)
+    }
+
+    /// The values of an object and a feature, in order; none of an object that is not live, or of another class's feature.
+    pub fn get(&self, o: ObjectId, f: FeatureId) -> &[Scalar]
+        ensures { result.now ≡ slot self.now o f }
+    {
+        self.store.get(o, f)
+    }
+
+    /// The container of an object, and the containment feature that holds it.
+    pub fn holder(&self, o: ObjectId) -> Option<(ObjectId, FeatureId)>
+        ensures { result ≡ holder self.now o }
+    {
+        self.store.holder(o)
+    }
+}

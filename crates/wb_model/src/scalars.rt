@@ -1,0 +1,62 @@
+ghost use Rattle.std.specs.Cmp.{partial_equiv_from_equiv};
+ghost use Rattle.wb_model.specs.Scalars.{same};
+ghost use Rattle.wb_model.specs.ScalarLaws.{same_equiv};
+
+use wb_metamodel::{ClassId, EnumId, FeatureId, ObjectId, Text};
+
+/// A value that stands in a slot.
+#[derive(Debug, Drop)]
+pub enum Scalar {
+    Int(i64),
+    Bool(bool),
+    Text(Text),
+    /// An enumeration, and the number of one of its literals.
+    Literal(EnumId, u32),
+    /// The object that a reference leads to.
+    Object(ObjectId),
+}
+
+impl PartialEq for Scalar {
+    ghost eq = { same };
+
+    ghost laws = { partial_equiv_from_equiv same_equiv };
+
+    fn eq(&self, other: &Scalar) -> bool {
+        match (self, other) {
+            (Scalar::Int(a), Scalar::Int(b)) => a == b,
+            (Scalar::Bool(a), Scalar::Bool(b)) => a == b,
+            (Scalar::Text(a), Scalar::Text(b)) => a == b,
+            (Scalar::Literal(a, k), Scalar::Literal(b, l)) => a == b && k == l,
+            (Scalar::Object(a), Scalar::Object(b)) => a == b,
+            _ => false,
+        }
+    }
+}
+
+impl Eq for Scalar {
+    ghost laws = { same_equiv };
+}
+
+/// Where an object is put: among the roots, or last in a containment slot.
+#[derive(Clone, Copy, Debug, PartialEq, Eq)]
+pub enum Place {
+    Root,
+    In(ObjectId, FeatureId),
+}
+
+/// A part of a model that can be read by itself.
+#[derive(Clone, Copy, Debug, PartialEq, Eq)]
+pub enum Cell {
+    /// The class of an object.
+    Kind(ObjectId),
+    Slot(ObjectId, FeatureId),
+    /// The container of an object, and the containment feature that holds it.
+    Holder(ObjectId),
+    /// What an object contains, directly or through others.
+    Tree(ObjectId),
+    /// The plain references that lead to an object.
+    Inverse(ObjectId),
+    /// The live objects that conform to a class.
+    Extent(ClassId),
+    Roots,
+}

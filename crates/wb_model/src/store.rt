@@ -1,0 +1,138 @@
+ghost use Rattle.std.specs.Prelude.{◌≡◌, ◌<◌, length, IfSome, IfOk};
+ghost use Rattle.std.specs.FinMap.{len};
+ghost use Rattle.wb_model.specs.Contents.{kind, slot, empty_contents};
+ghost use Rattle.wb_model.specs.Cells.{holder};
+
+use crate::arranged::arranged_records;
+use crate::parts::Part;
+use crate::records::{Record, find_object, holding_object, values_of};
+use crate::scalars::Scalar;
+use std::alloc::{AllocError, Global};
+use std::marker::Model;
+use wb_base::List;
+use wb_metamodel::{ClassId, FeatureId, Metamodel, ObjectId};
+
+/// Objects with their slots, whether they make a valid model or not.
+#[derive(Drop)]
+pub struct Store {
+    metamodel: Metamodel,
+    next: u32,
+    // ascending by number, so that an object is found by halving
+    records: Vec<Record>,
+    roots: List<ObjectId>,
+}
+
+impl Model for Store {
+    ghost use Rattle.wb_model.specs.Contents.{Contents};
+    ghost use Rattle.std.specs.Coded.{codes};
+    ghost use Rattle.std.specs.FinMap as map;
+
+    ghost Value = { Contents };
+
+    ghost coded = { Prim.hlevel (codes, map.code) };
+
+    ghost use Rattle.wb_model.specs.Records.{contents_of, IsPlain};
+
+    ghost view = { λ s. contents_of s.metamodel s.next s.records.items s.roots };
+
+    ghost invariant = { λ s. IsPlain s.metamodel s.records.items };
+}
+
+impl Store {
+    ghost use Rattle.wb_model.specs.Records.{contents_of, IsPlain};
+    ghost use Rattle.wb_model.specs.Parts.{AreParts, made_of};
+
+    /// No objects, and the numbers from 1 on.
+    pub fn new(alloc: Global, metamodel: Metamodel) -> Store
+        ensures { result ≡ empty_contents metamodel }
+    {
+        Store {
+            metamodel,
+            next: 1,
+            records: Vec::new(alloc),
+            roots: List::new(alloc),
+        }
+    }
+
+    /// The objects of parts.
+    pub fn from_parts(
+        alloc: Global,
+        metamodel: Metamodel,
+        next: u32,
+        objects: List<Part>,
+        roots: List<ObjectId>,
+    ) -> Result<Store, AllocError>
+        requires { AreParts metamodel objects }
+        ensures { IfOk result (λ store. store ≡ made_of metamodel next objects roots) }
+    {
+        let mut records = arranged_records(alloc, objects)?;
+        records.sort_by_key(|record| record.id.0)?;
+        Ok(Store {
+            metamodel,
+            next,
+            records,
+            roots,
+        })
+    }
+
+    pub fn metamodel(&self) -> &Metamodel
+        ensures { result.now ≡ self.now.metamodel }
+    {
+        &self.metamodel
+    }
+
+    pub fn next(&self) -> u32
+        ensures { result ≡ self.now.next }
+    {
+        self.next
+    }
+
+    pub fn roots(&self) -> &[ObjectId]
+        ensures { result.now ≡ self.now.roots }
+    {
+        self.roots.as_slice()
+    }
+
+    /// The objects, ascending by number.
+    pub fn records(&self) -> &[Record]
+        ensures shown { self.now ≡ contents_of self.now.metamodel self.now.next result.now self.now.roots }
+        ensures plain { IsPlain self.now.metamodel result.now }
+    {
+        self.records.as_slice()
+    }
+
+    /// How many objects are live.
+    pub fn len(&self) -> usize
+        ensures { result ≡ len self.now.kinds }
+    {
+        self.records.as_slice().len()
+    }
+
+    /// The class of an object, none where it is not live.
+    pub fn kind(&self, o: ObjectId) -> Option<ClassId>
+        ensures value { result ≡ kind self.now o }
+        ensures known { IfSome result (λ c. c < length self.now.metamodel.classes) }
+    {
+        match find_object(&self.records, o) {
+            Some(record) => Some(record.class),
+            None => None,
+        }
+    }
+
+    /// The values of an object and a feature, in order.
+    pub fn get(&self, o: ObjectId, f: FeatureId) -> &[Scalar]
+        ensures { result.now ≡ slot self.now o f }
+    {
+        match find_object(&self.records, o) {
+            Some(record) => values_of(record.slots.as_slice(), f),
+            None => &[],
+        }
+    }
+
+    /// The container of an object, and the feature that holds it.
+    pub fn holder(&self, o: ObjectId) -> Option<(ObjectId, FeatureId)>
+        ensures { result ≡ holder self.now o }
+    {
+        holding_object(&self.metamodel, self.records.as_slice(), o)
+    }
+}

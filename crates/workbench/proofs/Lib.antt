@@ -1,0 +1,14 @@
+pub mod FirstPlaces
+pub mod Found
+pub mod FoundSteps
+pub mod ModelParts
+pub mod NewNumbers
+pub mod OnTop
+pub mod OverMetamodels
+pub mod Prefixes
+pub mod Ranges
+pub mod Searches
+pub mod StepLemmas
+pub mod TakenFiles
+pub mod Decisions
+pub mod Endings

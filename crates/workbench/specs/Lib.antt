@@ -1,0 +1,14 @@
+pub mod Answers
+pub mod ModelFile
+pub mod ModelText
+pub mod Opening
+pub mod Over
+pub mod Picture
+pub mod Refusal
+pub mod Search
+pub mod Steps
+pub mod Tasks
+pub mod Viewpoint
+pub mod ViewpointText
+pub mod Words
+pub mod Runs

@@ -1,0 +1,76 @@
+//! The workbench: a model, and a diagram of it that a viewpoint declares.
+#![tactic(auto)]
+
+mod answer;
+mod candidates;
+mod drawing;
+mod expressions;
+mod files;
+mod model_reader;
+mod model_text;
+mod nodes;
+mod opening;
+mod picture;
+mod refusal;
+mod repeats;
+mod run;
+mod status;
+#[cfg(test)]
+mod tests;
+mod viewpoint;
+mod viewpoint_reader;
+mod viewpoint_text;
+mod words;
+
+use crate::run::workbench;
+use crate::status::Status;
+use std::alloc::AllocError;
+use std::process::ExitCode;
+use std::{env, io};
+use wb_outer::{Bytes, FileShelf, StdoutSink, Steps, SureDoor, SureKeeper};
+
+/// The label of the count of evaluations.
+struct Evaluations;
+
+fn main(rt: HostRuntime) -> ExitCode {
+    let status = match words_asked(&rt) {
+        Ok(words) => run_on(&rt, words.as_slice()),
+        Err(_) => Status::NoMemory,
+    };
+    ExitCode::from(status as u8)
+}
+
+/// The words behind the program's name. Words that are not UTF-8 are of no form, like no words at all.
+fn words_asked(rt: &HostRuntime) -> Result<Vec<Bytes>, AllocError> {
+    let alloc = rt.alloc();
+    let mut words = Vec::new(alloc);
+    match env::args(rt) {
+        Ok(args) => {
+            for word in args.skip(1) {
+                words.push(Bytes::from_slice(alloc, word.as_bytes())?)?;
+            }
+            Ok(words)
+        }
+        Err(error) if error.kind() == io::ErrorKind::OutOfMemory => Err(AllocError),
+        Err(_) => Ok(words),
+    }
+}
+
+/// Runs over the files and the standard output of this process. No words ask for connections or kept rows yet.
+fn run_on(rt: &HostRuntime, words: &[Bytes]) -> Status {
+    let alloc = rt.alloc();
+    let mut shelf = FileShelf::new(rt, alloc);
+    let mut door = SureDoor::new(alloc, Vec::new(alloc));
+    let mut keeper = SureKeeper::new(alloc, Vec::new(alloc));
+    let mut out = StdoutSink::new(rt);
+    let mut steps: Steps<Evaluations> = Steps::new();
+    workbench(
+        alloc,
+        words,
+        &mut shelf,
+        &mut door,
+        &mut keeper,
+        &mut out,
+        &mut steps,
+    )
+}

@@ -1,0 +1,107 @@
+ghost use Rattle.std.specs.Prelude.{◌≡◌, ◌∷◌, [], IfOk};
+ghost use Rattle.std.specs.Result.{result_ok};
+ghost use Rattle.wb_metamodel.specs.Checks.{metamodel};
+ghost use Rattle.workbench.specs.Refusal.{Finds};
+ghost use Rattle.workbench.specs.ModelFile.{thin_model};
+ghost use Rattle.workbench.specs.Viewpoint.{thin_viewpoint};
+ghost use Rattle.workbench.specs.Steps.{IsStep, Ends, Turns};
+ghost use Rattle.workbench.specs.Over.{IsOver};
+ghost use Rattle.workbench.specs.Opening.{metamodel_due, viewpoint_due, model_due};
+
+use crate::answer::{Stop, not_built};
+use crate::files::take_file;
+use crate::model_reader::read_model;
+use crate::refusal::Refusal;
+use crate::viewpoint::Viewpoint;
+use crate::viewpoint_reader::read_viewpoint;
+use std::alloc::Global;
+use wb_metamodel::{Metamodel, MetamodelRefusal, read_metamodel};
+use wb_model::Model;
+use wb_outer::{Bytes, Shelf};
+
+/// Takes the metamodel's file, sizes it and reads it.
+pub fn take_metamodel<H: Shelf>(
+    alloc: Global,
+    shelf: &mut H,
+    name: &[u8],
+) -> Result<Metamodel, Stop>
+    ensures step { IsStep result (H.files shelf.old) (metamodel_due name.now) (name.now ∷ []) (H.asked shelf.old) (H.asked shelf.new) (H.faults shelf.old) (H.faults shelf.new) }
+    ensures files_stay { H.files shelf.new ≡ H.files shelf.old }
+{
+    match take_file(alloc, shelf, name) {
+        Ok(bytes) => settle(alloc, metamodel_in(alloc, &bytes)),
+        Err(stop) => Err(stop),
+    }
+}
+
+/// Takes the viewpoint's file, sizes it and reads it over the metamodel.
+pub fn take_viewpoint<H: Shelf>(
+    alloc: Global,
+    shelf: &mut H,
+    name: &[u8],
+    metamodel: &Metamodel,
+) -> Result<Viewpoint, Stop>
+    ensures step { IsStep result (H.files shelf.old) (viewpoint_due metamodel.now name.now) (name.now ∷ []) (H.asked shelf.old) (H.asked shelf.new) (H.faults shelf.old) (H.faults shelf.new) }
+    ensures files_stay { H.files shelf.new ≡ H.files shelf.old }
+    ensures over { IfOk result (IsOver metamodel.now) }
+{
+    match take_file(alloc, shelf, name) {
+        Ok(bytes) => settle(alloc, viewpoint_in(alloc, metamodel, &bytes)),
+        Err(stop) => Err(stop),
+    }
+}
+
+/// Takes the model's file, sizes it and reads it over the metamodel.
+pub fn take_model<H: Shelf>(
+    alloc: Global,
+    shelf: &mut H,
+    name: &[u8],
+    metamodel: Metamodel,
+) -> Result<Model, Stop>
+    ensures step { IsStep result (H.files shelf.old) (model_due metamodel name.now) (name.now ∷ []) (H.asked shelf.old) (H.asked shelf.new) (H.faults shelf.old) (H.faults shelf.new) }
+    ensures files_stay { H.files shelf.new ≡ H.files shelf.old }
+    ensures over { IfOk result (λ model. model.metamodel ≡ metamodel) }
+{
+    match take_file(alloc, shelf, name) {
+        Ok(bytes) => settle(alloc, model_in(alloc, metamodel, &bytes)),
+        Err(stop) => Err(stop),
+    }
+}
+
+/// The thin model that these bytes give over the metamodel, if they are one.
+fn model_in(alloc: Global, metamodel: Metamodel, bytes: &Bytes) -> Result<Model, Refusal>
+    ensures found { Finds result (thin_model metamodel bytes.now) }
+    ensures over { IfOk result (λ model. model.metamodel ≡ metamodel) }
+{
+    read_model(alloc, metamodel, bytes.as_slice())
+}
+
+/// The metamodel that these bytes are, if they are one.
+fn metamodel_in(alloc: Global, bytes: &Bytes) -> Result<Metamodel, Refusal>
+    ensures { Finds result (result_ok (metamodel bytes.now)) }
+{
+    match read_metamodel(alloc, bytes.as_slice()) {
+        Ok(metamodel) => Ok(metamodel),
+        Err(MetamodelRefusal::At(..)) => Err(Refusal::NotThin),
+        Err(MetamodelRefusal::NoMemory) => Err(Refusal::NoMemory),
+    }
+}
+
+/// The thin viewpoint that these bytes give over the metamodel, if they are one.
+fn viewpoint_in(alloc: Global, metamodel: &Metamodel, bytes: &Bytes) -> Result<Viewpoint, Refusal>
+    ensures found { Finds result (thin_viewpoint metamodel.now bytes.now) }
+    ensures over { IfOk result (IsOver metamodel.now) }
+{
+    read_viewpoint(alloc, metamodel, bytes.as_slice())
+}
+
+/// What a reader finds, or what ends the run.
+pub fn settle<T>(alloc: Global, found: Result<T, Refusal>) -> Result<T, Stop>
+    ensures { Turns found result }
+{
+    match found {
+        Ok(value) => Ok(value),
+        Err(Refusal::NotThin) => Err(Stop::Answer(not_built(alloc)?)),
+        Err(Refusal::NoMemory) => Err(Stop::NoMemory),
+    }
+}
