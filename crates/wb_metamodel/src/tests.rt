@@ -380,11 +380,8 @@ fn library_is_ordered(rt: &impl Abort, library: &Metamodel) {
     assert!(rt; !library.conforms(ClassId(0), ClassId(3)));
     assert!(rt; !library.conforms(ClassId(3), ClassId(1)));
     let features = library.features_of(ClassId(3));
-    assert_eq!(rt; features.len(), 4);
-    assert_eq!(rt; features[0].0, 0);
-    assert_eq!(rt; features[1].0, 2);
-    assert_eq!(rt; features[2].0, 3);
-    assert_eq!(rt; features[3].0, 4);
+    let expected = [FeatureId(0), FeatureId(2), FeatureId(3), FeatureId(4)];
+    assert!(rt; features == expected.as_slice());
 }
 
 #[test]
