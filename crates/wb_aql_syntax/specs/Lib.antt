@@ -1,0 +1,6 @@
+pub mod Reading
+pub mod Places
+pub mod Runs
+pub mod Grammar
+pub mod Tree
+pub mod View
