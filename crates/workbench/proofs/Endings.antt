@@ -1,5 +1,5 @@
 -- How a run ends, of what it decides on and what the sink answers.
-use Rattle.std.proofs.Common.{◌≡◌, ◌∙◌, sym, ap, subst, ℕ, true, false, List, [], ◌∷◌, Option, Some, None, IfSome, IfOk, Result, Ok, Err, ◌⊎◌, inl, inr, refl}
+use Rattle.std.proofs.Common.{◌≡◌, ◌∙◌, sym, ap, subst, ℕ, Bool, true, false, List, [], ◌∷◌, Option, Some, None, IfSome, IfOk, Result, Ok, Err, ◌⊎◌, inl, inr, refl}
 use Rattle.std.specs.Io.KnownBytes.{append_known}
 use Rattle.wb_outer.specs.Faults.{Rose}
 use Rattle.workbench.specs.declared.status.Status.{Status}
@@ -10,7 +10,7 @@ use Rattle.workbench.specs.Words.{Task, task_of, files_of}
 use Rattle.workbench.specs.Answers.{is_due, not_built, cannot_read}
 use Rattle.workbench.specs.Steps.{Files, IsStep, IsDecision, IsShelfFault, Concludes}
 use Rattle.workbench.specs.Opening.{task_due, answer_for, answer_to}
-use Rattle.workbench.specs.Runs.{Prints, Fails, IsPrinted, IsShelfFaultPrinted, IsCut}
+use Rattle.workbench.specs.Runs.{Prints, Fails, IsPrinted, IsShelfFaultPrinted, IsCut, IsComplete}
 use Rattle.workbench.proofs.Decisions.{concluded_step, not_built_decision}
 
 pub decided_task : {E : Type 0} (words : List (List ℕ)) (task : Task) (step : Result Answer Stop) (result : Result Answer E) (files : Option Files) (a0 a1 : List (List ℕ)) (f0 f1 : ℕ)
@@ -76,3 +76,19 @@ memory_of answer status asked f0 f1 old new before now fault (inr f) is = let ot
 pub nothing_told : (files : Option Files) (due : Files → Answer) (old new : Option (List ℕ)) → IfSome files (λ told. is_due NoMemory ≡ true → Prints (due told) NoMemory old new)
 nothing_told None due old new = tt
 nothing_told (Some told) due old new = λ is. absurd (let e : false ≡ true = is in cc)
+
+due_or_fault : (answer : Answer) (asked : List (List ℕ)) (f0 f1 : ℕ) → (is_due answer.status ≡ false → IsShelfFault f0 f1 asked answer) → ¬ (Rose f0 f1) → (b : Bool) → is_due answer.status ≡ b → is_due answer.status ≡ true
+due_or_fault answer asked f0 f1 fault calm true is = is
+due_or_fault answer asked f0 f1 fault calm false is = let f = fault is in absurd (calm f.rose)
+
+pub complete_of : (files : Option Files) (due : Files → Answer) (answer : Answer) (status : Status) (asked : List (List ℕ)) (f0 f1 : ℕ) (old new : Option (List ℕ)) (before now : ℕ)
+    → IfSome files (λ told. is_due answer.status ≡ true → answer ≡ due told) → (is_due answer.status ≡ false → IsShelfFault f0 f1 asked answer) → IsPrinted answer status old new before now
+    → IfSome files (λ told. IsComplete (due told) status old new f0 f1 before now)
+complete_of None due answer status asked f0 f1 old new before now told fault printed = tt
+complete_of (Some told) due answer status asked f0 f1 old new before now h fault (inl p) = λ calm still.
+    inr (subst (λ a. Prints a status old new) (h (due_or_fault answer asked f0 f1 fault calm (is_due answer.status) refl)) p)
+complete_of (Some told) due answer status asked f0 f1 old new before now h fault (inr f) = λ calm still. let r = f.rose in absurd (still r)
+
+pub complete_without_memory : (files : Option Files) (due : Files → Answer) (f0 f1 : ℕ) (old new : Option (List ℕ)) (before now : ℕ) → IfSome files (λ told. IsComplete (due told) NoMemory old new f0 f1 before now)
+complete_without_memory None due f0 f1 old new before now = tt
+complete_without_memory (Some told) due f0 f1 old new before now = λ calm still. inl refl

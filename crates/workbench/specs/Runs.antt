@@ -4,7 +4,7 @@ use Rattle.std.specs.Io.KnownBytes.{append_known}
 use Rattle.wb_outer.specs.Faults.{Rose}
 use Rattle.wb_outer.specs.Sink.{AppendsFront}
 use Rattle.workbench.specs.declared.status.Status.{Status}
-use Rattle.workbench.specs.declared.status.Status.TheVariants.{SinkFault}
+use Rattle.workbench.specs.declared.status.Status.TheVariants.{SinkFault, NoMemory}
 use Rattle.workbench.specs.declared.answer.Answer.{Answer}
 use Rattle.workbench.specs.Answers.{is_due}
 use Rattle.workbench.specs.Steps.{Files, IsShelfFault}
@@ -35,3 +35,8 @@ pub record IsCut (files : Option Files) (due : Files → Answer) (asked : List (
   pub told : IfSome files (λ told. is_due answer.status ≡ true → answer ≡ due told)
   pub fault : is_due answer.status ≡ false → IsShelfFault before now asked answer
   pub front : AppendsFront old new answer.text
+
+-- where no count of faults rose, the answer is printed whole and its status is that of the run, unless memory was wanting
+abbrev pub IsComplete : Answer → Status → Option (List ℕ) → Option (List ℕ) → (shelf_before shelf_now sink_before sink_now : ℕ) → Type 0
+IsComplete answer status old new shelf_before shelf_now sink_before sink_now =
+    ¬ (Rose shelf_before shelf_now) → ¬ (Rose sink_before sink_now) → (status ≡ NoMemory) ⊎ Prints answer status old new

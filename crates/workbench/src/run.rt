@@ -7,7 +7,7 @@ ghost use Rattle.workbench.specs.Answers.{is_due};
 ghost use Rattle.workbench.specs.Steps.{AsksFront, IsStep, IsDecision, Concludes};
 ghost use Rattle.workbench.specs.Opening.{answer_to, task_due};
 ghost use Rattle.workbench.specs.Tasks.{shown};
-ghost use Rattle.workbench.specs.Runs.{Prints, IsPrinted, IsShelfFaultPrinted, IsCut};
+ghost use Rattle.workbench.specs.Runs.{Prints, IsPrinted, IsShelfFaultPrinted, IsCut, IsComplete};
 
 use crate::answer::{Answer, Stop, not_built};
 use crate::drawing::draw;
@@ -36,6 +36,8 @@ pub fn workbench<H: Shelf, D: Door, K: Keeper, O: Sink, L>(
     // A fault of the sink comes with its count, and leaves a front of the text of an answer.
     ensures sink_fault { result ≡ SinkFault → Rose (O.faults out.old) (O.faults out.new) }
     ensures front { result ≡ SinkFault → IsCut (H.files shelf.old) (answer_to words.now) (H.asked shelf.new) (H.faults shelf.old) (H.faults shelf.new) (O.sent out.old) (O.sent out.new) }
+    // Without a fault of the shelf or the sink the answer is the one that is due, printed whole, unless memory was wanting.
+    ensures complete { IfSome (H.files shelf.old) (λ files. IsComplete (answer_to words.now files) result (O.sent out.old) (O.sent out.new) (H.faults shelf.old) (H.faults shelf.new) (O.faults out.old) (O.faults out.new)) }
     // Want of memory prints nothing.
     ensures memory { result ≡ NoMemory → O.sent out.new ≡ O.sent out.old }
     // Words that ask for no connections leave door and keeper alone.
