@@ -3,6 +3,7 @@
 
 mod arranged;
 mod building;
+mod change_list;
 mod checks;
 mod climbs;
 mod conditions;
@@ -14,13 +15,16 @@ mod links;
 mod model;
 mod parts;
 mod records;
+mod refusals;
 mod scalars;
 mod store;
 mod uncontained;
 mod validity;
 
 pub use building::build;
+pub use change_list::ChangeList;
 pub use model::{Model, empty};
+pub use refusals::ModelRefusal;
 pub use parts::{BuildRefusal, Part, SlotPart};
 pub use scalars::{Cell, Place, Scalar};
 pub use validity::validity_is_decided;
