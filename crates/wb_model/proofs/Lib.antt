@@ -8,6 +8,7 @@ pub mod LinkLemmas
 pub mod Made
 pub mod Maps
 pub mod Members
+pub mod Relinked
 pub mod RootLemmas
 pub mod Steps
 pub mod ValidSlots
