@@ -1,6 +1,7 @@
 pub mod ArrangedLemmas
 pub mod Climbing
 pub mod EmptyContents
+pub mod FeatureOwners
 pub mod Found
 pub mod Shown
 pub mod HolderLemmas
