@@ -1,6 +1,7 @@
 pub mod ArrangedLemmas
 pub mod Climbing
 pub mod EmptyContents
+pub mod Ends
 pub mod FeatureOwners
 pub mod Found
 pub mod Shown
@@ -11,6 +12,7 @@ pub mod Maps
 pub mod Members
 pub mod Relinked
 pub mod RootLemmas
+pub mod Sound
 pub mod Steps
 pub mod ValidSlots
 pub mod ValidTest
