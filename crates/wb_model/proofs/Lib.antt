@@ -1,4 +1,5 @@
 pub mod ArrangedLemmas
+pub mod Changed
 pub mod Climbing
 pub mod EmptyContents
 pub mod Ends
