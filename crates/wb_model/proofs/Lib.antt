@@ -7,6 +7,7 @@ pub mod FeatureOwners
 pub mod Found
 pub mod Shown
 pub mod HolderLemmas
+pub mod KeptLinks
 pub mod LinkLemmas
 pub mod Made
 pub mod Maps
