@@ -43,14 +43,18 @@ module _ {A : Type 0} (p : A → Bool) where
   filter-none [] h = refl
   filter-none (x ∷ xs) h = ap (λ b. cond b (x ∷ filter p xs) (filter p xs)) (h x here) ∙ filter-none xs (λ y m. h y (there m))
 
+pub filter-same : (p q : Scalar → Bool) (vs : List Scalar) → ((v : Scalar) → In v vs → p v ≡ q v) → filter p vs ≡ filter q vs
+filter-same p q [] h = refl
+filter-same p q (v ∷ vs) h = λ i. cond (h v here i) (v ∷ filter-same p q vs (λ w m. h w (there m)) i) (filter-same p q vs (λ w m. h w (there m)) i)
+
 differ-filter : (p : Scalar → Bool) (vs : List Scalar) → differ vs ≡ true → differ (filter p vs) ≡ true
 differ-filter p [] h = refl
 differ-filter p (v ∷ vs) h =
     let both = and_parts (not (list_any (λ w. same w v) vs)) (differ vs) h in
     let later = differ-filter p vs both.1 in
     let first : list_any (λ w. same w v) (filter p vs) ≡ false = to_false _ (λ t.
-        let r = any_found (λ w. same w v) (filter p vs) t in
-        false≢true (sym (not-true _ both.0) ∙ any_In (λ w. same w v) vs r.0 (filter-In p vs r.0 r.1).0 r.2)) in
+    let r = any_found (λ w. same w v) (filter p vs) t in
+    false≢true (sym (not-true _ both.0) ∙ any_In (λ w. same w v) vs r.0 (filter-In p vs r.0 r.1).0 r.2)) in
     elim (p v) as (λ b. differ (cond b (v ∷ filter p vs) (filter p vs)) ≡ true) [
       | true ↦ and_from _ _ (not_from_false _ first) later
       | false ↦ later
@@ -61,12 +65,12 @@ differ-push [] v h apart = refl
 differ-push (w ∷ vs) v h apart =
     let both = and_parts (not (list_any (λ u. same u w) vs)) (differ vs) h in
     let first : list_any (λ u. same u w) (vs ++ v ∷ []) ≡ false = to_false _ (λ t.
-        let r = any_found (λ u. same u w) (vs ++ v ∷ []) t in
-        let is : r.0 ≡ w = (same_decides r.0 w).0 r.2 in
-        ⊎_elim
-        (λ m. false≢true (sym (not-true _ both.0) ∙ any_In (λ u. same u w) vs r.0 m r.2))
-        (λ m. ⊎_elim (λ e. apart (subst (λ z. In z (w ∷ vs)) (sym (e ∙ is)) here)) (λ n. elim n [ ]) (In-cons v [] r.0 m))
-        (In-append_cases vs (v ∷ []) r.0 r.1)) in
+    let r = any_found (λ u. same u w) (vs ++ v ∷ []) t in
+    let is : r.0 ≡ w = (same_decides r.0 w).0 r.2 in
+    ⊎_elim
+    (λ m. false≢true (sym (not-true _ both.0) ∙ any_In (λ u. same u w) vs r.0 m r.2))
+    (λ m. ⊎_elim (λ e. apart (subst (λ z. In z (w ∷ vs)) (sym (e ∙ is)) here)) (λ n. elim n [ ]) (In-cons v [] r.0 m))
+    (In-append_cases vs (v ∷ []) r.0 r.1)) in
     and_from _ _ (not_from_false _ first) (differ-push vs v both.1 (λ m. apart (there m)))
 
 -- ---- the links that stand after a change
@@ -196,8 +200,7 @@ other-known m well l k known o =
     let of_kind : is_of_kind m pair.feature.kind l.value ≡ true = ap (λ r. option_map_or (λ (feature : Feature). is_of_kind m feature.kind l.value) r false) (sym pair.is_feature) ∙ known.1 in
     let to : conforms_to m pair.other.owner k.object ≡ true = (λ i. is_of_kind m (sym pair.opposed.target i) (sym o.to i)) ∙ of_kind in
     let d = kind-at m k.object (λ d. conforms mm d pair.other.owner) to in
-    let from : conforms_to m pair.feature.owner l.object ≡ true = ap (λ r. option_map_or (λ d. conforms mm d pair.feature.owner) r false) c.1 ∙ above in
-    (
+    let from : conforms_to m pair.feature.owner l.object ≡ true = ap (λ r. option_map_or (λ d. conforms mm d pair.feature.owner) r false) c.1 ∙ above in (
       ap (λ r. option_map_or (λ c. has_feature mm c k.feature) r false) d.1 ∙ owner-feature mm well d.0 k.feature pair.other pair.is_other d.2,
       ap (λ r. option_map_or (λ (feature : Feature). is_of_kind m feature.kind k.value) r false) pair.is_other ∙ (λ i. is_of_kind m (pair.opposed.target_back i) (o.from i)) ∙ from,
     )
@@ -280,7 +283,7 @@ fits-one m well s leaves l known new space =
 
 -- ---- containment
 
-both-same : (a b : Bool) → (a ≡ true → b ≡ true) → (b ≡ true → a ≡ true) → a ≡ b
+pub both-same : (a b : Bool) → (a ≡ true → b ≡ true) → (b ≡ true → a ≡ true) → a ≡ b
 both-same true b f g = sym (f refl)
 both-same false true f g = g refl
 both-same false false f g = refl

@@ -157,7 +157,7 @@ module _ (m : Contents) (well : WellFormed m.metamodel) (v : IsValid m) (l : Lin
       (λ v j.
       let here_too : Link = link k.object k.feature v in
       let gives : gives_way m.metamodel l here_too ≡ true = any_In (λ (e : Link). not (is_many m.metamodel e.feature) && is_at e.object e.feature here_too) (both_ends m.metamodel l) k i
-          (λ x. not_from_false _ one x && is_at-itself k.object k.feature v x) in
+      (λ x. not_from_false _ one x && is_at-itself k.object k.feature v x) in
       not_from_true _ (ends-this m.metamodel (gives_way m.metamodel l) here_too gives))
 
   -- and a slot of many values is not full

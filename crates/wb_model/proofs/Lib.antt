@@ -1,6 +1,7 @@
 pub mod ArrangedLemmas
 pub mod Changed
 pub mod Climbing
+pub mod EditSteps
 pub mod EmptyContents
 pub mod Ends
 pub mod FeatureOwners
