@@ -22,6 +22,7 @@ use Rattle.wb_model.specs.Valid.Within.{directly, through}
 use Rattle.wb_model.proofs.Ends.{Opposites, opposites, opposite-apart, opposite-back, plain-parts, plain-other, Opposed, other_end-In, other_end-is, other_end-cases, In-other_end, In-both_ends, ends-this, ends-that, ends-cases, opposed-unique, opposed-back, ends-mirrored}
 use Rattle.wb_model.proofs.FeatureOwners.{In-cons, filter-In, In-filter, feature-owner, owner-feature}
 use Rattle.wb_model.proofs.LinkLemmas.{any_found, to_false}
+use Rattle.wb_model.proofs.Live.{kind-at}
 use Rattle.wb_model.proofs.Members.{In, any_In, In-append_left, In-append_right, In-append_cases, In-flat_map, flat_map-In}
 use Rattle.wb_model.proofs.Members.In.{here, there}
 use Rattle.wb_model.proofs.Relinked.{values_at, is_at-link, is_at-itself, slot-relink}
@@ -182,13 +183,6 @@ module _ (leaves : Link → Bool) (comes : List Link) (m : Contents) (s : Sound 
 -- a link of an object and a feature of its class, with a value of its kind
 abbrev pub IsKnown : Contents → Link → Type 0
 IsKnown m l = (is_of_class m l.object l.feature ≡ true) × (is_of_feature m l.feature l.value ≡ true)
-
-kind-at : (m : Contents) (o : ℕ) (p : ℕ → Bool) → option_map_or p (kind m o) false ≡ true → (c : ℕ) × (kind m o ≡ Some c) × (p c ≡ true)
-kind-at m o p h =
-    elim (kind m o) as (λ r. kind m o ≡ r → option_map_or p r false ≡ true → (c : ℕ) × (kind m o ≡ Some c) × (p c ≡ true)) [
-      | None ↦ λ e h. absurd (false≢true h)
-      | Some c ↦ λ e h. (c, e, h)
-    ] refl h
 
 -- with a link its other end is of a class and a kind
 pub other-known : (m : Contents) → WellFormed m.metamodel → (l k : Link) → IsKnown m l → Opposed m.metamodel l k → IsKnown m k

@@ -10,9 +10,11 @@ pub mod Shown
 pub mod HolderLemmas
 pub mod KeptLinks
 pub mod LinkLemmas
+pub mod Live
 pub mod Made
 pub mod Maps
 pub mod Members
+pub mod Rehoused
 pub mod Relinked
 pub mod RootLemmas
 pub mod Sound
