@@ -70,15 +70,15 @@ link-known m l h = let both = link-parts m l h in ((and_parts (is_of_class m l.o
 
 -- ---- changes of plain features
 
-sound : (m : Contents) → IsValid m → Sound m
+pub sound : (m : Contents) → IsValid m → Sound m
 unfolding IsValid
 sound m v = sound-from m v
 
-housed : (m : Contents) → IsValid m → Housed m
+pub housed : (m : Contents) → IsValid m → Housed m
 unfolding IsValid
 housed m v = housed-from m v
 
-valid : (m : Contents) → Sound m → Housed m → IsValid m
+pub valid : (m : Contents) → Sound m → Housed m → IsValid m
 unfolding IsValid
 valid m s h = valid-from m s h
 
@@ -126,7 +126,7 @@ kept_unset m n o f well valid h =
 
 -- ---- set and add
 
-one-space : (metamodel : Metamodel) (f : ℕ) → 0 < room metamodel f
+pub one-space : (metamodel : Metamodel) (f : ℕ) → 0 < room metamodel f
 one-space metamodel f = elim (is_many metamodel f) as (λ b. 0 < cond b 20000 1) [ true ↦ omega arith | false ↦ omega arith ]
 
 and-true : (a b : Bool) → a ≡ true → (a && b) ≡ false → b ≡ false

@@ -8,6 +8,7 @@ pub mod FeatureOwners
 pub mod Found
 pub mod Shown
 pub mod HolderLemmas
+pub mod KeptCreated
 pub mod KeptLinks
 pub mod LinkLemmas
 pub mod Live
