@@ -5,11 +5,13 @@ pub mod EditSteps
 pub mod EmptyContents
 pub mod Ends
 pub mod FeatureOwners
+pub mod FewerRoots
 pub mod Found
 pub mod Shown
 pub mod HolderLemmas
 pub mod KeptCreated
 pub mod KeptLinks
+pub mod KeptMoved
 pub mod LinkLemmas
 pub mod Live
 pub mod Made
@@ -20,5 +22,6 @@ pub mod Relinked
 pub mod RootLemmas
 pub mod Sound
 pub mod Steps
+pub mod Trees
 pub mod ValidSlots
 pub mod ValidTest
