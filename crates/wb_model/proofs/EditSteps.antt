@@ -1,6 +1,6 @@
 -- Changes of both ends as steps, each of which changes one slot.
-use Rattle.std.proofs.Common.{◌≡◌, ℕ, Bool, true, false, not, ◌&&◌, ◌||◌, List, [], ◌∷◌, ◌++◌, Option, Some, None, refl, sym, ap, subst, ◌∙◌, cond, append_assoc, append-nil, ◌⊎◌, inl, inr, ⊎_elim}
-use Rattle.std.proofs.lemmas.Bool.{and_parts, and_from, false≢true, or_left, or_right, or_cases, not_from_false, cases_Bool}
+use Rattle.std.proofs.Common.{◌≡◌, ℕ, Bool, true, false, not, ◌&&◌, ◌||◌, List, [], ◌∷◌, ◌++◌, Some, None, refl, sym, ap, subst, ◌∙◌, cond, append_assoc, append-nil, ◌⊎◌, ⊎_elim}
+use Rattle.std.proofs.lemmas.Bool.{and_parts, and_from, or_left, or_right, or_cases}
 use Rattle.std.proofs.lemmas.Option.{none-some}
 use Rattle.std.proofs.lemmas.List.Elements.{filter-append}
 use Rattle.std.specs.Prelude.{filter}
@@ -8,19 +8,18 @@ use Rattle.std.specs.List.{list_any, flat_map}
 use Rattle.wb_metamodel.specs.Metamodel.{Metamodel}
 use Rattle.wb_metamodel.specs.WellFormed.{WellFormed}
 use Rattle.wb_model.specs.declared.scalars.Scalar.{Scalar}
-use Rattle.wb_model.specs.declared.scalars.Scalar.TheVariants.{Object}
 use Rattle.wb_model.specs.Scalars.{same}
 use Rattle.wb_model.specs.ScalarLaws.{same_decides}
 use Rattle.wb_model.specs.Contents.{Contents, slot}
-use Rattle.wb_model.specs.Valid.{opposite, is_many, IsValid}
+use Rattle.wb_model.specs.Valid.{opposite, is_many}
 use Rattle.wb_model.specs.Edits.{Link, link, relink, other_end, both_ends, change, is_at, same_link, gives_way, unlink, emptied}
 use Rattle.wb_model.proofs.Changed.{filter-same, both-same}
-use Rattle.wb_model.proofs.Ends.{Opposed, other_end-is, other_end-In, other_end-cases, In-other_end, In-both_ends, ends-this, ends-that, ends-cases, opposed-unique, opposed-back}
-use Rattle.wb_model.proofs.LinkLemmas.{any_found, to_false}
+use Rattle.wb_model.proofs.Ends.{Opposed, other_end-is, other_end-In, In-other_end, In-both_ends, ends-this, ends-that, ends-cases, opposed-unique, opposed-back}
+use Rattle.wb_model.proofs.LinkLemmas.{any_found}
 use Rattle.wb_model.proofs.Members.{In, any_In, In-flat_map, flat_map-In}
 use Rattle.wb_model.proofs.Members.In.{here, there}
 use Rattle.wb_model.proofs.Relinked.{values_at, values_at-append, values_at-filter, is_at-link, is_at-itself, slot-relink, same_contents}
-use Rattle.wb_model.proofs.Sound.{Stands, Sound, sound-from}
+use Rattle.wb_model.proofs.Sound.{Stands, Sound}
 
 -- ---- relinks of relinks
 

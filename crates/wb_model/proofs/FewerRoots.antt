@@ -1,8 +1,7 @@
 -- Lists of numbers of which some are left out.
-use Rattle.std.proofs.Common.{◌≡◌, ℕ, Bool, true, false, not, ◌&&◌, List, [], ◌∷◌, refl, sym, ◌∙◌, cond, eqb}
+use Rattle.std.proofs.Common.{◌≡◌, ℕ, Bool, true, false, not, List, [], ◌∷◌, refl, sym, ◌∙◌, cond}
 use Rattle.std.proofs.lemmas.Bool.{and_parts, and_from, false≢true, not-true, not_from_false}
 use Rattle.std.specs.Prelude.{filter}
-use Rattle.std.specs.List.{list_any}
 use Rattle.wb_model.specs.Valid.{once}
 use Rattle.wb_model.specs.Edits.{is_among}
 use Rattle.wb_model.proofs.FeatureOwners.{filter-In, In-filter}

@@ -1,15 +1,15 @@
 -- A new object keeps a model valid.
-use Rattle.std.proofs.Common.{◌≡◌, ◌≢◌, ℕ, ◌+◌, ◌<◌, ◌≤◌, ◌^◌, suc, Bool, true, false, not, ◌&&◌, ◌||◌, List, [], ◌∷◌, ◌++◌, length, Option, Some, None, refl, sym, ap, subst, ◌∙◌, cond, eqb, ltb, leb, arith, ◌⊎◌, inl, inr, ⊎_elim, append-nil}
+use Rattle.std.proofs.Common.{◌≡◌, ◌≢◌, ℕ, ◌+◌, ◌<◌, ◌≤◌, ◌^◌, suc, Bool, true, false, not, ◌&&◌, List, [], ◌∷◌, ◌++◌, length, Some, None, refl, sym, ap, subst, ◌∙◌, cond, eqb, ltb, leb, arith, ◌⊎◌, inl, inr, ⊎_elim, append-nil}
 use Rattle.std.proofs.lemmas.Bool.{and_parts, and_from, false≢true, not-false, not-true, not_from_false, leb-false, eqb-true, eq-eqb, ne_eqb, lt-ltb, or_left, or_right, or_cases, ltb-true}
 use Rattle.std.proofs.lemmas.Bool.Decides.{nat_tests}
 use Rattle.std.proofs.lemmas.Cmp.{nat_cmp_total}
 use Rattle.std.proofs.lemmas.Option.{same_Some}
 use Rattle.std.proofs.lemmas.List.Folds.{list_any-append}
-use Rattle.std.specs.Prelude.{filter, IsSome, is_some, Result, Ok}
+use Rattle.std.specs.Prelude.{IsSome, Ok}
 use Rattle.std.specs.Option.{option_map_or}
 use Rattle.std.specs.Ordering.{nat_cmp, eq_by_cmp}
 use Rattle.std.specs.List.{list_any, flat_map}
-use Rattle.std.specs.FinMap.{get, insert, len, get-insert, len-insert, contains_key}
+use Rattle.std.specs.FinMap.{len, get-insert, len-insert, contains_key}
 use Rattle.wb_metamodel.specs.declared.features.Feature.{Feature}
 use Rattle.wb_metamodel.specs.declared.features.Kind.{Kind}
 use Rattle.wb_metamodel.specs.declared.features.Kind.TheVariants.{Int as IntKind, Bool as BoolKind, Text as TextKind, Enum, Reference}
@@ -22,20 +22,20 @@ use Rattle.wb_model.specs.declared.scalars.Place.TheVariants.{Root, In as Inside
 use Rattle.wb_model.specs.declared.refusals.ModelRefusal.{ModelRefusal}
 use Rattle.wb_model.specs.declared.refusals.ModelRefusal.TheVariants.{UnknownObject, KindMismatch, UpperBound, AbstractClass, TooManyObjects, IdsSpent}
 use Rattle.wb_model.specs.Contents.{Contents, kind, slot, is_containment, contains}
-use Rattle.wb_model.specs.Valid.{is_abstract, room, is_of_class, is_of_kind, is_of_feature, is_root, once, AreContainedOnce, RootsAreUncontained, IsValid}
-use Rattle.wb_model.specs.Edits.{Link, link, relink, both_ends, change, with_object, created, first_refusal, is_live, may_contain, refers_to, is_full, refusals_of_place, refusal_of_create, create}
+use Rattle.wb_model.specs.Valid.{is_abstract, room, is_of_class, is_of_kind, is_of_feature, is_root, once, RootsAreUncontained, IsValid}
+use Rattle.wb_model.specs.Edits.{Link, link, relink, both_ends, with_object, created, first_refusal, is_live, may_contain, refers_to, is_full, refusal_of_create, create}
 use Rattle.wb_model.proofs.Changed.{filter-few, filter-none, stay_at, IsKnown, fits-one, sound-relink, relink-Stands, relink-stays, relink-comes, within-less}
-use Rattle.wb_model.proofs.Ends.{Opposed, containment-one, container-single, In-both_ends, opposed-back}
+use Rattle.wb_model.proofs.Ends.{Opposed, containment-one, In-both_ends}
 use Rattle.wb_model.proofs.Found.{is_itself}
 use Rattle.wb_model.proofs.HolderLemmas.{decide}
 use Rattle.wb_model.proofs.KeptLinks.{not_refused, accepted, sound, housed, valid, one-space}
 use Rattle.wb_model.proofs.LinkLemmas.{to_false}
 use Rattle.wb_model.proofs.Live.{kind-some, some-kind, object-live, value-live, holder-live, contained-live, live-below, of_class-kept, of_feature-kept}
-use Rattle.wb_model.proofs.Members.{In, flat_map-In}
-use Rattle.wb_model.proofs.Members.In.{here, there}
+use Rattle.wb_model.proofs.Members.{In}
+use Rattle.wb_model.proofs.Members.In.{here}
 use Rattle.wb_model.proofs.Rehoused.{IsRehoused, housed-rehoused, within-first}
 use Rattle.wb_model.proofs.Relinked.{kind-relink}
-use Rattle.wb_model.proofs.Sound.{Stands, contains-parts, contains-from, Sound, Housed}
+use Rattle.wb_model.proofs.Sound.{contains-parts, contains-from, Sound, Housed}
 
 -- ---- what an accepted edit says
 
@@ -158,10 +158,10 @@ once-push (p ∷ os) o h n =
     let apart : eqb p o ≡ false = to_false _ (λ t. false≢true (sym n ∙ or_left _ _ t)) in
     let rest : list_any (λ r. eqb r o) os ≡ false = to_false _ (λ t. false≢true (sym n ∙ or_right (eqb p o) _ t)) in
     let first : list_any (λ r. eqb r p) (os ++ o ∷ []) ≡ false = to_false _ (λ t.
-        ⊎_elim
-        (λ a. false≢true (sym (not-true _ both.0) ∙ a))
-        (λ b. ⊎_elim (λ e. false≢true (sym apart ∙ eq-eqb p o (sym (eqb-true o p e)))) (λ n. false≢true n) (or_cases (eqb o p) false b))
-        (or_cases (list_any (λ r. eqb r p) os) _ (sym (list_any-append (λ r. eqb r p) os (o ∷ [])) ∙ t))) in
+    ⊎_elim
+    (λ a. false≢true (sym (not-true _ both.0) ∙ a))
+    (λ b. ⊎_elim (λ e. false≢true (sym apart ∙ eq-eqb p o (sym (eqb-true o p e)))) (λ n. false≢true n) (or_cases (eqb o p) false b))
+    (or_cases (list_any (λ r. eqb r p) os) _ (sym (list_any-append (λ r. eqb r p) os (o ∷ [])) ∙ t))) in
     and_from _ _ (not_from_false _ first) (once-push os o both.1 rest)
 
 module _ (m : Contents) (class : ℕ) (s : Sound m) (h : Housed m) where

@@ -1,16 +1,15 @@
 -- Edits of plain features keep a model valid.
-use Rattle.std.proofs.Common.{◌≡◌, ℕ, ◌<◌, ◌≤◌, Bool, true, false, not, ◌&&◌, List, [], ◌∷◌, ◌++◌, length, Option, Some, None, refl, sym, ap, subst, ◌∙◌, cond, leb, arith, ◌⊎◌, inl, inr, ⊎_elim}
-use Rattle.std.proofs.lemmas.Bool.{and_parts, false≢true, not-false, not-true, not_from_true, not_from_false, leb-false, cases_Bool, and_cases}
+use Rattle.std.proofs.Common.{◌≡◌, ℕ, ◌<◌, Bool, true, false, not, ◌&&◌, List, [], ◌∷◌, length, Option, Some, None, refl, sym, ap, subst, ◌∙◌, cond, arith, ◌⊎◌, inl, ⊎_elim}
+use Rattle.std.proofs.lemmas.Bool.{and_parts, false≢true, not-false, not_from_true, not_from_false, leb-false, cases_Bool}
 use Rattle.std.proofs.lemmas.Option.{none-some}
-use Rattle.std.specs.Prelude.{filter, Result, Ok, Err}
-use Rattle.std.specs.Result.{result_ok}
+use Rattle.std.specs.Prelude.{Ok}
 use Rattle.std.specs.List.{list_any, flat_map}
 use Rattle.wb_metamodel.specs.Metamodel.{Metamodel}
 use Rattle.wb_metamodel.specs.WellFormed.{WellFormed}
 use Rattle.wb_model.specs.declared.scalars.Scalar.{Scalar}
 use Rattle.wb_model.specs.declared.refusals.ModelRefusal.{ModelRefusal}
 use Rattle.wb_model.specs.declared.refusals.ModelRefusal.TheVariants.{UnknownObject, KindMismatch, UpperBound}
-use Rattle.wb_model.specs.Contents.{Contents, kind, slot, is_containment, contains}
+use Rattle.wb_model.specs.Contents.{Contents, slot}
 use Rattle.wb_model.specs.Cells.{is_plain}
 use Rattle.wb_model.specs.Valid.{is_many, room, is_of_class, is_of_feature, IsValid}
 use Rattle.wb_model.specs.Edits.{Link, link, relink, both_ends, change, is_at, same_link, stands, gives_way, link_up, unlink, emptied, first_refusal, unless, is_live, is_known_value, is_full, is_plain_link, is_plain_feature, finds_no_room, refusal_of_link, refusal_of_take, refusal_of_unset, set, add, take_out, unset}
@@ -20,7 +19,7 @@ use Rattle.wb_model.proofs.LinkLemmas.{any_found, to_false}
 use Rattle.wb_model.proofs.Members.{In, any_In}
 use Rattle.wb_model.proofs.Members.In.{here, there}
 use Rattle.wb_model.proofs.Relinked.{is_at-link, is_at-itself, kind-relink}
-use Rattle.wb_model.proofs.Sound.{Stands, absent, Sound, Housed, sound-from, housed-from, valid-from}
+use Rattle.wb_model.proofs.Sound.{absent, Sound, Housed, sound-from, housed-from, valid-from}
 
 -- ---- accepted edits
 

@@ -1,37 +1,33 @@
 -- A move of an object keeps a model valid.
-use Rattle.std.proofs.Common.{◌≡◌, ◌≢◌, ℕ, ◌<◌, ◌≤◌, Bool, true, false, not, ◌&&◌, ◌||◌, List, [], ◌∷◌, ◌++◌, length, Option, Some, None, refl, sym, ap, subst, ◌∙◌, cond, eqb, leb, arith, ◌⊎◌, inl, inr, ⊎_elim}
+use Rattle.std.proofs.Common.{◌≡◌, ◌≢◌, ℕ, ◌<◌, Bool, true, false, not, ◌&&◌, List, [], ◌∷◌, length, Some, None, refl, sym, ap, subst, ◌∙◌, cond, eqb, arith, ◌⊎◌, inl, inr, ⊎_elim}
 use Rattle.std.proofs.lemmas.Bool.{and_parts, and_from, false≢true, not-false, not-true, not_from_true, not_from_false, leb-false, eqb-true, eq-eqb, ne_eqb, or_parts}
-use Rattle.std.proofs.lemmas.Option.{none-some}
-use Rattle.std.specs.Prelude.{filter, IsSome, Result, Ok}
+use Rattle.std.specs.Prelude.{IsSome, Ok}
 use Rattle.std.specs.Option.{option_map_or}
 use Rattle.std.specs.List.{list_any, flat_map}
 use Rattle.wb_metamodel.specs.declared.features.Feature.{Feature}
-use Rattle.wb_metamodel.specs.declared.features.Kind.{Kind}
-use Rattle.wb_metamodel.specs.declared.features.Kind.TheVariants.{Reference}
-use Rattle.wb_metamodel.specs.Metamodel.{Metamodel, feature_at}
+use Rattle.wb_metamodel.specs.Metamodel.{Metamodel}
 use Rattle.wb_metamodel.specs.WellFormed.{WellFormed}
 use Rattle.wb_model.specs.declared.scalars.Scalar.{Scalar}
 use Rattle.wb_model.specs.declared.scalars.Scalar.TheVariants.{Int, Bool as Boolean, Text, Literal, Object}
-use Rattle.wb_model.specs.declared.refusals.ModelRefusal.{ModelRefusal}
 use Rattle.wb_model.specs.declared.refusals.ModelRefusal.TheVariants.{UnknownObject, KindMismatch, UpperBound, ContainmentCycle}
 use Rattle.wb_model.specs.Scalars.{same}
 use Rattle.wb_model.specs.ScalarLaws.{same_decides}
 use Rattle.wb_model.specs.Contents.{Contents, kind, slot, is_containment, contains}
 use Rattle.wb_model.specs.Cells.{tree}
-use Rattle.wb_model.specs.Valid.{room, opposite, is_instance, is_of_kind, is_of_feature, is_root, Within, IsValid}
+use Rattle.wb_model.specs.Valid.{room, opposite, is_instance, is_of_kind, is_of_feature, IsValid}
 use Rattle.wb_model.specs.Edits.{Link, link, relink, both_ends, change, leads_to, without_root, moved, stands, is_among, is_live, is_full, may_contain, conforms_as, refusal_of_move, move_to}
 use Rattle.wb_model.proofs.Changed.{filter-few, filter-none, stay_at, IsKnown, fits-one, sound-relink, relink-Stands, relink-stays, relink-comes}
-use Rattle.wb_model.proofs.Ends.{opposites, opposite-back, containment-one, Opposed, ends-this, ends-that, ends-cases, opposed-back}
+use Rattle.wb_model.proofs.Ends.{opposites, opposite-back, containment-one, Opposed, ends-this, ends-that, ends-cases}
 use Rattle.wb_model.proofs.FewerRoots.{among-filter, filter-among, once-filter}
 use Rattle.wb_model.proofs.KeptCreated.{MayHold, may-hold, held-of_feature, same-object, In-ends}
 use Rattle.wb_model.proofs.KeptLinks.{not_refused, accepted, sound, housed, valid, one-space}
 use Rattle.wb_model.proofs.LinkLemmas.{to_false}
 use Rattle.wb_model.proofs.Live.{kind-at}
 use Rattle.wb_model.proofs.Members.{In}
-use Rattle.wb_model.proofs.Members.In.{here, there}
+use Rattle.wb_model.proofs.Members.In.{here}
 use Rattle.wb_model.proofs.Rehoused.{IsRehoused, housed-rehoused}
 use Rattle.wb_model.proofs.Relinked.{kind-relink}
-use Rattle.wb_model.proofs.Sound.{Stands, absent, contains-parts, contains-from, Sound, Housed}
+use Rattle.wb_model.proofs.Sound.{absent, contains-parts, contains-from, Sound, Housed}
 use Rattle.wb_model.proofs.Trees.{within-tree, In-among}
 
 -- ---- what an accepted edit says
@@ -146,8 +142,8 @@ module _ (m : Contents) (well : WellFormed m.metamodel) (s : Sound m) (h : House
       (λ old. inl (
         contains-from m q g x parts.0 old.0,
         (λ e.
-        let leads : leads_to mm o held ≡ true = and_from (is_containment mm g) (same (Object x) (Object o)) parts.0 ((same_decides (Object x) (Object o)).1 (ap Object e)) in
-        false≢true (sym old.1 ∙ ends-this mm (leads_to mm o) held leads)),
+            let leads : leads_to mm o held ≡ true = and_from (is_containment mm g) (same (Object x) (Object o)) parts.0 ((same_decides (Object x) (Object o)).1 (ap Object e)) in
+            false≢true (sym old.1 ∙ ends-this mm (leads_to mm o) held leads)),
       ))
       (λ come. ⊎_elim
       (λ e. inr (ap (λ (k : Link). k.object) (sym e), ap (λ (k : Link). k.feature) (sym e), same-object x o (ap (λ (k : Link). k.value) (sym e))))

@@ -12,6 +12,7 @@ pub mod HolderLemmas
 pub mod KeptCreated
 pub mod KeptLinks
 pub mod KeptMoved
+pub mod KeptRemoved
 pub mod LinkLemmas
 pub mod Live
 pub mod Made

@@ -1,7 +1,6 @@
 -- What stands in a sound model is live; and what stays true where more, or fewer, objects are live.
-use Rattle.std.proofs.Common.{◌≡◌, ◌≢◌, ℕ, ◌<◌, Bool, true, false, List, [], ◌∷◌, Option, Some, None, refl, sym, ap, subst, ◌∙◌, ltb}
+use Rattle.std.proofs.Common.{◌≡◌, ℕ, ◌<◌, Bool, true, false, List, Some, None, refl, sym, ap, subst, ◌∙◌}
 use Rattle.std.proofs.lemmas.Bool.{and_parts, false≢true, ltb-true}
-use Rattle.std.proofs.lemmas.Option.{none-some}
 use Rattle.std.specs.Prelude.{IsSome}
 use Rattle.std.specs.Option.{option_map_or}
 use Rattle.std.specs.Ordering.{nat_cmp}
@@ -12,7 +11,7 @@ use Rattle.wb_metamodel.specs.declared.features.Kind.TheVariants.{Int as IntKind
 use Rattle.wb_metamodel.specs.Metamodel.{conforms, feature_at}
 use Rattle.wb_model.specs.declared.scalars.Scalar.{Scalar}
 use Rattle.wb_model.specs.declared.scalars.Scalar.TheVariants.{Int, Bool as Boolean, Text, Literal, Object}
-use Rattle.wb_model.specs.Contents.{Contents, Filled, slot_cmp, kind, slot, contains}
+use Rattle.wb_model.specs.Contents.{Contents, Filled, slot_cmp, kind, contains}
 use Rattle.wb_model.specs.Edits.{Link, link}
 use Rattle.wb_model.specs.Valid.{has_feature, is_of_class, conforms_to, is_of_kind, is_of_feature}
 use Rattle.wb_model.proofs.Sound.{Stands, contains-parts, Sound}

@@ -1,11 +1,10 @@
 -- An object that is put into a containment slot: containment stays a forest, and the roots are what stands in no slot.
-use Rattle.std.proofs.Common.{◌≡◌, ◌≢◌, ℕ, Bool, true, false, List, [], ◌∷◌, refl, sym, ap, subst, ◌∙◌, ◌⊎◌, inl, inr, ⊎_elim}
+use Rattle.std.proofs.Common.{◌≡◌, ◌≢◌, ℕ, true, refl, sym, subst, ◌∙◌, ◌⊎◌, inl, inr, ⊎_elim}
 use Rattle.std.proofs.lemmas.Bool.{false≢true}
 use Rattle.std.specs.Prelude.{IsSome}
 use Rattle.wb_model.specs.Contents.{Contents, kind, contains}
 use Rattle.wb_model.specs.Valid.{AreContainedOnce, Within, NoneIsWithinItself, is_root, once, RootsAreUncontained}
 use Rattle.wb_model.specs.Valid.Within.{directly, through}
-use Rattle.wb_model.proofs.HolderLemmas.{decide}
 use Rattle.wb_model.proofs.LinkLemmas.{to_false}
 use Rattle.wb_model.proofs.Sound.{Housed}
 

@@ -1,13 +1,11 @@
 -- The tree of an object is what it contains, directly or through others.
-use Rattle.std.proofs.Common.{◌≡◌, ◌≢◌, ℕ, ◌<◌, ◌≤◌, zero, suc, Bool, true, false, not, List, [], ◌∷◌, ◌++◌, length, map, Option, Some, None, refl, sym, ap, subst, ◌∙◌, cond, eqb, arith, ◌⊎◌, inl, inr, ⊎_elim}
-use Rattle.std.proofs.lemmas.Bool.{false≢true, not-true, not_from_true, not_from_false, eqb-true, ne_eqb}
+use Rattle.std.proofs.Common.{◌≡◌, ℕ, ◌<◌, ◌≤◌, zero, suc, true, false, not, List, [], ◌∷◌, length, map, sym, subst, ◌∙◌, cond, eqb, arith, ⊎_elim}
+use Rattle.std.proofs.lemmas.Bool.{not_from_false, eqb-true, ne_eqb}
 use Rattle.std.proofs.lemmas.Cmp.{nat_cmp_total}
 use Rattle.std.proofs.lemmas.List.{length-map}
 use Rattle.std.specs.Prelude.{filter, IsSome}
 use Rattle.std.specs.Option.{option_map_or}
-use Rattle.std.specs.Ordering.{nat_cmp}
-use Rattle.std.specs.List.{list_any, flat_map}
-use Rattle.std.specs.FinMap.{entries, get, get-entries, len, len-entries, nat_cmp-IsAntisymmetric}
+use Rattle.std.specs.FinMap.{entries, get-entries, len, len-entries, nat_cmp-IsAntisymmetric}
 use Rattle.wb_metamodel.specs.Metamodel.{features_of}
 use Rattle.wb_model.specs.declared.scalars.Scalar.{Scalar}
 use Rattle.wb_model.specs.declared.scalars.Scalar.TheVariants.{Int, Bool as Boolean, Text, Literal, Object}
