@@ -147,16 +147,16 @@ each_left (l ∷ ls) m = each_left ls (relink (same_link l) [] m)
 abbrev pub among : List Link → Link → Bool
 among ls k = list_any (λ l. same_link l k) ls
 
+or-false : (b : Bool) → (b || false) ≡ b
+or-false true = refl
+or-false false = refl
+
 or-assoc : (a b c : Bool) → ((a || b) || c) ≡ (a || (b || c))
 or-assoc true b c = refl
 or-assoc false b c = refl
 
 pub each_left-relink : (ls : List Link) (leaves : Link → Bool) (m : Contents) → each_left ls (relink leaves [] m) ≡ relink (λ k. leaves k || among ls k) [] m
-each_left-relink [] leaves m = relink-agree leaves (λ k. leaves k || false) [] [] m (λ k i. or-false (leaves k)) (λ o f. refl)
-  where
-    or-false : (b : Bool) → b ≡ (b || false)
-    or-false true = refl
-    or-false false = refl
+each_left-relink [] leaves m = relink-agree leaves (λ k. leaves k || false) [] [] m (λ k i. sym (or-false (leaves k))) (λ o f. refl)
 each_left-relink (l ∷ ls) leaves m =
     ap (each_left ls) (relink-relink leaves (same_link l) [] [] m)
     ∙ each_left-relink ls (λ k. leaves k || same_link l k) m
@@ -213,9 +213,9 @@ cleared-relink l m =
     ]
 
 module _ (mm : Metamodel) (l j : Link) where
-  gives-cleared : (k : Link) → list_any (gives_way mm l) (both_ends mm j) ≡ true → (e : Link) × ((l ≡ e) ⊎ Opposed mm l e) × (clears mm e j ≡ true)
+  gives-cleared : list_any (gives_way mm l) (both_ends mm j) ≡ true → (e : Link) × ((l ≡ e) ⊎ Opposed mm l e) × (clears mm e j ≡ true)
   unfolding clears
-  gives-cleared k h =
+  gives-cleared h =
       let r = any_found (gives_way mm l) (both_ends mm j) h in
       let e = any_found (λ (e : Link). not (is_many mm e.feature) && is_at e.object e.feature r.0) (both_ends mm l) r.2 in
       let both = and_parts (not (is_many mm e.0.feature)) (is_at e.0.object e.0.feature r.0) e.2 in
@@ -228,16 +228,12 @@ module _ (mm : Metamodel) (l j : Link) where
       let r = any_found (is_at e.object e.feature) (both_ends mm j) both.1 in
       any_In (gives_way mm l) (both_ends mm j) r.0 r.1 (any_In (λ (e : Link). not (is_many mm e.feature) && is_at e.object e.feature r.0) (both_ends mm l) e i (and_from _ _ both.0 r.2))
 
-or-false : (b : Bool) → (b || false) ≡ b
-or-false true = refl
-or-false false = refl
-
 module _ (m : Contents) (l : Link) where
   way-alone : (j : Link) → other_end m.metamodel l ≡ [] → list_any (gives_way m.metamodel l) (both_ends m.metamodel j) ≡ (clears m.metamodel l j || false)
   way-alone j alone =
       both-same _ _
       (λ h.
-      let e = gives-cleared m.metamodel l j j h in
+      let e = gives-cleared m.metamodel l j h in
       or_left _ _ (⊎_elim
       (λ s. subst (λ z. clears m.metamodel z j ≡ true) (sym s) e.2)
       (λ o. let none : In e.0 [] = subst (In e.0) alone (In-other_end m.metamodel l e.0 o) in elim none [ ])
@@ -260,7 +256,7 @@ module _ (m : Contents) (l : Link) where
       let ends = clears mm l j || clears mm k j in
       both-same _ _
       (λ h.
-      let e = gives-cleared mm l j j h in
+      let e = gives-cleared mm l j h in
       or_left _ _ (or_left _ _ (⊎_elim
       (λ s. or_left _ _ (subst (λ z. clears mm z j ≡ true) (sym s) e.2))
       (λ q. or_right (clears mm l j) _ (subst (λ z. clears mm z j ≡ true) (opposed-unique mm l e.0 k q o) e.2))
@@ -289,22 +285,18 @@ module _ (m : Contents) (l : Link) where
       ∙ ap (λ n. relink none (k ∷ []) (relink none (l ∷ []) n)) (sym (cleared-relink k (relink first [] m)))
       ∙ ap (λ n. relink none (k ∷ []) (relink none (l ∷ []) (cleared k n))) (sym (cleared-relink l m))
 
+pub none-any : (ls : List Link) → list_any (λ k. false) ls ≡ false
+none-any [] = refl
+none-any (l ∷ ls) = none-any ls
+
 -- a link comes to a slot that has room, and its other end
 pub come-alone : (m : Contents) (l : Link) → other_end m.metamodel l ≡ [] → change (λ j. false) (l ∷ []) m ≡ relink (λ j. false) (l ∷ []) m
 come-alone m l alone =
     relink-agree (λ j. list_any (λ k. false) (both_ends m.metamodel j)) (λ j. false) (flat_map (both_ends m.metamodel) (l ∷ [])) (l ∷ []) m
     (λ j i. none-any (both_ends m.metamodel j)) (λ o f. ap (λ ks. values_at o f (l ∷ (ks ++ []))) alone)
-  where
-    none-any : (ls : List Link) → list_any (λ k. false) ls ≡ false
-    none-any [] = refl
-    none-any (l ∷ ls) = none-any ls
 
 pub come-both : (m : Contents) (l k : Link) → Opposed m.metamodel l k → change (λ j. false) (l ∷ []) m ≡ relink (λ j. false) (k ∷ []) (relink (λ j. false) (l ∷ []) m)
 come-both m l k o =
     relink-agree (λ j. list_any (λ k. false) (both_ends m.metamodel j)) (λ j. false || false) (flat_map (both_ends m.metamodel) (l ∷ [])) (l ∷ k ∷ []) m
     (λ j i. none-any (both_ends m.metamodel j)) (λ p g. ap (λ ks. values_at p g (l ∷ (ks ++ []))) (other_end-is m.metamodel l k o))
     ∙ sym (relink-relink (λ j. false) (λ j. false) (l ∷ []) (k ∷ []) m)
-  where
-    none-any : (ls : List Link) → list_any (λ k. false) ls ≡ false
-    none-any [] = refl
-    none-any (l ∷ ls) = none-any ls

@@ -128,7 +128,7 @@ kept_unset m n o f well valid h =
 pub one-space : (metamodel : Metamodel) (f : ℕ) → 0 < room metamodel f
 one-space metamodel f = elim (is_many metamodel f) as (λ b. 0 < cond b 20000 1) [ true ↦ omega arith | false ↦ omega arith ]
 
-and-true : (a b : Bool) → a ≡ true → (a && b) ≡ false → b ≡ false
+pub and-true : (a b : Bool) → a ≡ true → (a && b) ≡ false → b ≡ false
 and-true true b e h = h
 and-true false b e h = absurd (false≢true e)
 

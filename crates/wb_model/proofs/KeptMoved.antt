@@ -20,7 +20,7 @@ use Rattle.wb_model.proofs.Changed.{filter-few, filter-none, stay_at, IsKnown, f
 use Rattle.wb_model.proofs.Ends.{opposites, opposite-back, containment-one, Opposed, ends-this, ends-that, ends-cases}
 use Rattle.wb_model.proofs.FewerRoots.{among-filter, filter-among, once-filter}
 use Rattle.wb_model.proofs.KeptCreated.{MayHold, may-hold, held-of_feature, same-object, In-ends}
-use Rattle.wb_model.proofs.KeptLinks.{not_refused, accepted, sound, housed, valid, one-space}
+use Rattle.wb_model.proofs.KeptLinks.{and-true, not_refused, accepted, sound, housed, valid, one-space}
 use Rattle.wb_model.proofs.LinkLemmas.{to_false}
 use Rattle.wb_model.proofs.Live.{kind-at}
 use Rattle.wb_model.proofs.Members.{In}
@@ -62,10 +62,6 @@ opposite-object m well g f v e h =
     let pair = opposites m.metamodel well g f e in
     instance-object m pair.other.owner v
     (ap (λ k. is_of_kind m k v) (sym pair.opposed.target) ∙ ap (λ r. option_map_or (λ (feature : Feature). is_of_kind m feature.kind v) r false) (sym pair.is_feature) ∙ h)
-
-and-true : (a b : Bool) → a ≡ true → (a && b) ≡ false → b ≡ false
-and-true true b e h = h
-and-true false b e h = absurd (false≢true e)
 
 leads-object : (mm : Metamodel) (o q g x : ℕ) → leads_to mm o (link q g (Object x)) ≡ true → (is_containment mm g ≡ true) × (x ≡ o)
 leads-object mm o q g x h =

@@ -1,5 +1,5 @@
 -- A removal keeps a model valid.
-use Rattle.std.proofs.Common.{◌≡◌, ℕ, ◌+◌, ◌≤◌, suc, Bool, true, false, not, List, [], ◌∷◌, length, Some, None, refl, sym, ap, subst, ◌∙◌, cond, arith, inl, ⊎_elim}
+use Rattle.std.proofs.Common.{◌≡◌, ℕ, ◌+◌, ◌≤◌, suc, Bool, true, false, not, ◌||◌, List, [], ◌∷◌, length, Some, None, refl, sym, ap, subst, ◌∙◌, cond, arith, inl, ⊎_elim, append-nil}
 use Rattle.std.proofs.lemmas.Bool.{false≢true, not-true, not_from_false, or_left, or_right, or_cases, or_parts, cases_Bool}
 use Rattle.std.proofs.lemmas.Cmp.{nat_cmp_total}
 use Rattle.std.proofs.lemmas.Option.{none-some}
@@ -13,12 +13,12 @@ use Rattle.wb_model.specs.declared.scalars.Scalar.TheVariants.{Object}
 use Rattle.wb_model.specs.declared.refusals.ModelRefusal.TheVariants.{UnknownObject}
 use Rattle.wb_model.specs.Scalars.{same}
 use Rattle.wb_model.specs.ScalarLaws.{same_decides}
-use Rattle.wb_model.specs.Contents.{Contents, kind, contains}
+use Rattle.wb_model.specs.Contents.{Contents, kind, slot, contains}
 use Rattle.wb_model.specs.Cells.{tree}
 use Rattle.wb_model.specs.Valid.{is_of_class, is_of_feature, Within, RootsAreUncontained, IsValid}
 use Rattle.wb_model.specs.Valid.Within.{directly, through}
 use Rattle.wb_model.specs.Edits.{Link, link, relink, touches, is_among, is_value_among, is_live, without, removed, remove}
-use Rattle.wb_model.proofs.Changed.{filter-few, Fits, sound-relink, relink-Stands, relink-stays, within-less}
+use Rattle.wb_model.proofs.Changed.{filter-few, filter-none, Fits, sound-relink, relink-Stands, relink-stays, within-less}
 use Rattle.wb_model.proofs.Ends.{Opposed}
 use Rattle.wb_model.proofs.FewerRoots.{among-filter, filter-among, once-filter}
 use Rattle.wb_model.proofs.KeptCreated.{same-object}
@@ -28,6 +28,7 @@ use Rattle.wb_model.proofs.Live.{kind-some, some-kind, contained-live, of_class-
 use Rattle.wb_model.proofs.Members.{In, any_In}
 use Rattle.wb_model.proofs.Members.In.{there}
 use Rattle.wb_model.proofs.FeatureOwners.{In-cons}
+use Rattle.wb_model.proofs.Relinked.{slot-relink}
 use Rattle.wb_model.proofs.Sound.{Stands, contains-parts, contains-from, Sound, Housed}
 use Rattle.wb_model.proofs.Trees.{tree-within, within-tree, among-In, In-among}
 
@@ -65,9 +66,6 @@ module _ (m : Contents) (dead : List ℕ) where
   abbrev left : Contents
   left = without dead m
 
-  stays-live : ℕ → Bool
-  stays-live x = not (is_among dead x)
-
   abbrev stay_entries : List (ℕ × ℕ)
   stay_entries = filter (λ (e : ℕ × ℕ). not (is_among dead e.0)) (entries m.kinds)
 
@@ -87,6 +85,15 @@ module _ (m : Contents) (dead : List ℕ) where
       (λ t. absurd (none-some c (sym (kind-without x ∙ ap (λ b. cond (not b) (kind m x) None) t) ∙ e)))
       (λ n. (sym (kind-stays x n) ∙ e, n))
       (cases_Bool (is_among dead x))
+
+  pub slot-without : (o f : ℕ) → slot left o f ≡ cond (is_among dead o) [] (filter (λ v. not (is_value_among dead v)) (slot m o f))
+  unfolding relink
+  slot-without o f =
+      slot-relink (touches dead) [] m o f ∙ append-nil (filter (λ v. not (is_among dead o || is_value_among dead v)) (slot m o f))
+      ∙ elim (is_among dead o) as (λ b. filter (λ v. not (b || is_value_among dead v)) (slot m o f) ≡ cond b [] (filter (λ v. not (is_value_among dead v)) (slot m o f))) [
+        | true ↦ filter-none (λ v. false) (slot m o f) (λ v i. refl)
+        | false ↦ refl
+      ]
 
   few-left : len m.kinds ≤ 20000 → len left.kinds ≤ 20000
   few-left h =

@@ -18,6 +18,7 @@ pub mod Live
 pub mod Made
 pub mod Maps
 pub mod Members
+pub mod MoveSteps
 pub mod Rehoused
 pub mod Relinked
 pub mod RootLemmas

@@ -55,6 +55,13 @@ module _ {K X : Type 0} {R : K → K → Ordering} (total : IsTotalOrder R) wher
     pub get-every : ((k : K) (x : X) → get m k ≡ Some x → passes (k, x) ≡ true) → list_all passes (entries m) ≡ true
     get-every h = all_In passes (entries m) (λ e i. h e.0 e.1 (get-entries m e.0 ∙ sorted-find (entries m) e (true-of _ (entries_sorted m)) i))
 
+-- an entry of the slots is what they have at its object and feature
+pub entry-In : (m : Contents) (e : (ℕ × ℕ) × Filled) → In e (entries m.slots) → get m.slots e.0 ≡ Some e.1
+entry-In m e i = get-entries m.slots e.0 ∙ sorted-find slot_cmp_total (entries m.slots) e (true-of _ (entries_sorted m.slots)) i
+
+pub In-entry : (m : Contents) (o f : ℕ) (values : Filled) → get m.slots (o, f) ≡ Some values → In ((o, f), values) (entries m.slots)
+In-entry m o f values e = find-In slot_cmp_total slot_cmp-IsAntisymmetric (entries m.slots) (o, f) values (sym (get-entries m.slots (o, f)) ∙ e)
+
 -- ---- links that stand in a model
 
 abbrev pub Stands : Contents → Link → Type 0
