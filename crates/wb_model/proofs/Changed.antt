@@ -233,7 +233,7 @@ module _ (mm : Metamodel) (well : WellFormed mm) (l : Link) where
             ] refl
       ] refl
 
-  alone-ends : (o f : ℕ) → IsAlone o f ends
+  pub alone-ends : (o f : ℕ) → IsAlone o f ends
   alone-ends o f =
       subst (IsAlone o f) (sym (append-nil (both_ends mm l)))
       (⊎_elim

@@ -59,7 +59,7 @@ relink-agree a b ls ks m leave come =
     ∙ (λ i. filter-same (λ v. not (a (link o f v))) (λ v. not (b (link o f v))) (slot m o f) (λ v j. ap not (leave (link o f v) j)) i ++ come o f i)
     ∙ sym (slot-relink b ks m o f))
 
-filter-all : (vs : List Scalar) → filter (λ v. true) vs ≡ vs
+pub filter-all : (vs : List Scalar) → filter (λ v. true) vs ≡ vs
 filter-all [] = refl
 filter-all (v ∷ vs) = ap (λ ws. v ∷ ws) (filter-all vs)
 

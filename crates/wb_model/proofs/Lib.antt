@@ -1,6 +1,7 @@
 pub mod ArrangedLemmas
 pub mod Changed
 pub mod Climbing
+pub mod EditLaws
 pub mod EditSteps
 pub mod EmptyContents
 pub mod Ends
