@@ -86,7 +86,7 @@ values_at-In o f (l ∷ ls) v m =
       | false ↦ λ t m. there (values_at-In o f ls v m)
     ] refl m
 
-In-values_at : (ls : List Link) (l : Link) → In l ls → In l.value (values_at l.object l.feature ls)
+pub In-values_at : (ls : List Link) (l : Link) → In l ls → In l.value (values_at l.object l.feature ls)
 In-values_at [] l m = elim m [ ]
 In-values_at (k ∷ ls) l here = subst (λ b. In l.value (cond b (l.value ∷ values_at l.object l.feature ls) (values_at l.object l.feature ls))) (sym (is_at-itself l.object l.feature l.value)) here
 In-values_at (k ∷ ls) l (there m) =

@@ -47,7 +47,7 @@ pub record MayCreate (m : Contents) (class : ℕ) : Type 0 where
 abbrev limits : Contents → ℕ → List (Bool × ModelRefusal)
 limits m class = (is_abstract m.metamodel class, AbstractClass) ∷ (leb 20000 (len m.kinds), TooManyObjects) ∷ (leb (2 ^ 32) (suc m.next), IdsSpent) ∷ []
 
-may-create : (m : Contents) (class : ℕ) → first_refusal (limits m class) ≡ None → MayCreate m class
+pub may-create : (m : Contents) (class : ℕ) → first_refusal (limits m class) ≡ None → MayCreate m class
 may-create m class h =
     let a = not_refused (is_abstract m.metamodel class) AbstractClass ((leb 20000 (len m.kinds), TooManyObjects) ∷ (leb (2 ^ 32) (suc m.next), IdsSpent) ∷ []) h in
     let b = not_refused (leb 20000 (len m.kinds)) TooManyObjects ((leb (2 ^ 32) (suc m.next), IdsSpent) ∷ []) a.1 in
@@ -59,7 +59,7 @@ pub record MayPlace (m : Contents) (class p f : ℕ) : Type 0 where
   pub sort : may_contain m p f class ≡ true
   pub space : is_full m p f ≡ false
 
-may-place : (m : Contents) (class p f : ℕ) → refusal_of_create m class (Inside p f) ≡ None → MayPlace m class p f × MayCreate m class
+pub may-place : (m : Contents) (class p f : ℕ) → refusal_of_create m class (Inside p f) ≡ None → MayPlace m class p f × MayCreate m class
 may-place m class p f h =
     let a = not_refused (not (is_live m p)) UnknownObject ((not (may_contain m p f class), KindMismatch) ∷ (is_full m p f, UpperBound) ∷ limits m class) h in
     let b = not_refused (not (may_contain m p f class)) KindMismatch ((is_full m p f, UpperBound) ∷ limits m class) a.1 in
@@ -245,7 +245,7 @@ module _ (m : Contents) (well : WellFormed m.metamodel) (s : Sound m) (h : House
   abbrev new_link : Link
   new_link = link p f (Object m.next)
 
-  nothing_leaves : Link → Bool
+  abbrev nothing_leaves : Link → Bool
   nothing_leaves l = list_any (λ k. false) (both_ends mm l)
 
   abbrev placed : Contents
@@ -284,7 +284,6 @@ module _ (m : Contents) (well : WellFormed m.metamodel) (s : Sound m) (h : House
       e
 
   sound-placed : Sound placed
-  unfolding nothing_leaves
   sound-placed =
       sound-relink nothing_leaves (flat_map (both_ends mm) (new_link ∷ [])) wider (sound-grown m class m.roots s may)
       (fits-one wider well (sound-grown m class m.roots s may) (λ k. false) new_link new-known (λ i. stands-nowhere p f i) free)
@@ -303,7 +302,6 @@ module _ (m : Contents) (well : WellFormed m.metamodel) (s : Sound m) (h : House
       (relink-Stands nothing_leaves (flat_map (both_ends mm) (new_link ∷ [])) wider held parts.1)
 
   unleft : (l : Link) → nothing_leaves l ≡ false
-  unfolding nothing_leaves
   unleft l = leaves-none (both_ends mm l)
 
   stays : (q g x : ℕ) → contains m q g x ≡ true → contains placed q g x ≡ true
@@ -312,7 +310,7 @@ module _ (m : Contents) (well : WellFormed m.metamodel) (s : Sound m) (h : House
       let parts = contains-parts m q g x c in
       contains-from placed q g x parts.0 (relink-stays nothing_leaves (flat_map (both_ends mm) (new_link ∷ [])) wider (link q g (Object x)) parts.1 (unleft (link q g (Object x))))
 
-  is_placed : contains placed p f m.next ≡ true
+  pub is_placed : contains placed p f m.next ≡ true
   unfolding relink
   is_placed = contains-from placed p f m.next holds.containment (relink-comes nothing_leaves (flat_map (both_ends mm) (new_link ∷ [])) wider new_link here)
 
@@ -335,7 +333,6 @@ module _ (m : Contents) (well : WellFormed m.metamodel) (s : Sound m) (h : House
   }
 
   placed-valid : IsValid (created class (Inside p f) m)
-  unfolding nothing_leaves
   placed-valid = valid placed sound-placed (housed-rehoused m placed p f m.next rehoused h)
 
 created-valid : (m : Contents) → WellFormed m.metamodel → IsValid m → (class : ℕ) (place : Place) → refusal_of_create m class place ≡ None → IsValid (created class place m)

@@ -145,12 +145,11 @@ module _ (m : Contents) (well : WellFormed m.metamodel) (v : IsValid m) (l : Lin
       subst (λ f. is_plain m.metamodel f ≡ true) (at-feature r.0.object r.0.feature k (and_parts _ _ r.2).1)
       (ends-plain plain r.0 (In-both_ends m.metamodel l r.0 r.1))
 
-  way : Link → Bool
+  abbrev pub way : Link → Bool
   way k = list_any (gives_way m.metamodel l) (both_ends m.metamodel k)
 
   -- all values of a slot of one value give way
-  way-all : (k : Link) → In k (both_ends m.metamodel l) → is_many m.metamodel k.feature ≡ false → stay_at way m k.object k.feature ≡ []
-  unfolding way
+  pub way-all : (k : Link) → In k (both_ends m.metamodel l) → is_many m.metamodel k.feature ≡ false → stay_at way m k.object k.feature ≡ []
   way-all k i one =
       filter-none (λ v. not (way (link k.object k.feature v))) (slot m k.object k.feature)
       (λ v j.
@@ -173,7 +172,6 @@ module _ (m : Contents) (well : WellFormed m.metamodel) (v : IsValid m) (l : Lin
       (cases_Bool (is_many m.metamodel k.feature))
 
   linked : IsKnown m l → is_plain m.metamodel l.feature ≡ true → stands m l ≡ false → finds_no_room m l ≡ false → IsValid (change (gives_way m.metamodel l) (l ∷ []) m)
-  unfolding way
   linked known plain new found =
       valid _
       (sound-relink way (flat_map (both_ends m.metamodel) (l ∷ [])) m (sound m v)

@@ -38,7 +38,7 @@ pub record MayMove (m : Contents) (o p f : ℕ) : Type 0 where
   pub space : (not (stands m (link p f (Object o))) && is_full m p f) ≡ false
   pub no_cycle : is_among (o ∷ tree m o) p ≡ false
 
-may-move : (m : Contents) (o p f : ℕ) → refusal_of_move m o p f ≡ None → MayMove m o p f
+pub may-move : (m : Contents) (o p f : ℕ) → refusal_of_move m o p f ≡ None → MayMove m o p f
 may-move m o p f h =
     let full = not (stands m (link p f (Object o))) && is_full m p f in
     let cycle = is_among (o ∷ tree m o) p in
@@ -47,6 +47,13 @@ may-move m o p f h =
     let c = not_refused full UpperBound ((cycle, ContainmentCycle) ∷ []) b.1 in
     let d = not_refused cycle ContainmentCycle [] c.1 in
     record { live = not-false _ a.0; sort = not-false _ b.0; space = c.0; no_cycle = d.0 }
+
+-- the object has a class, and its new slot may hold objects of this class
+pub moves-class : (m : Contents) (o p f : ℕ) → MayMove m o p f → (c : ℕ) × (kind m o ≡ Some c) × (may_contain m p f c ≡ true)
+moves-class m o p f may = kind-at m o (may_contain m p f) may.sort
+
+pub moves-into : (m : Contents) (o p f : ℕ) (may : MayMove m o p f) → MayHold m p f (moves-class m o p f may).0
+moves-into m o p f may = may-hold m p f (moves-class m o p f may).0 (moves-class m o p f may).2
 
 -- ---- values of a reference are objects
 
@@ -78,7 +85,7 @@ module _ (m : Contents) (well : WellFormed m.metamodel) (s : Sound m) (h : House
   abbrev new_link : Link
   new_link = link p f (Object o)
 
-  goes : Link → Bool
+  abbrev goes : Link → Bool
   goes l = list_any (leads_to mm o) (both_ends mm l)
 
   abbrev come : List Link
@@ -90,21 +97,17 @@ module _ (m : Contents) (well : WellFormed m.metamodel) (s : Sound m) (h : House
   sound-rootless : Sound rootless
   sound-rootless = record { next_spent = s.next_spent; numbers = s.numbers; concrete = s.concrete; of_class = s.of_class; has_room = s.has_room; of_kind = s.of_kind; values_differ = s.values_differ; agree = s.agree; few = s.few }
 
-  class_of_object : (c : ℕ) × (kind m o ≡ Some c) × (may_contain m p f c ≡ true)
-  class_of_object = kind-at m o (may_contain m p f) may.sort
-
-  holds : MayHold m p f class_of_object.0
-  holds = may-hold m p f class_of_object.0 class_of_object.2
+  holds : MayHold m p f (moves-class m o p f may).0
+  holds = moves-into m o p f may
 
   new-known : IsKnown rootless new_link
-  new-known = (holds.of_class, held-of_feature m f class_of_object.0 o class_of_object.1 holds.refers)
+  new-known = (holds.of_class, held-of_feature m f (moves-class m o p f may).0 o (moves-class m o p f may).1 holds.refers)
 
   not-full : is_full m p f ≡ false
   not-full = and-true (not (stands m new_link)) (is_full m p f) (not_from_false _ new) may.space
 
   -- a container leaves the object's container reference with it
   container-goes : (g : ℕ) (v : Scalar) → opposite mm f ≡ Some g → In v (slot m o g) → goes (link o g v) ≡ true
-  unfolding goes
   container-goes g v e i =
       let back = opposite-back mm well f g e in
       let q = opposite-object m well g f v back (s.of_kind (link o g v) i) in
@@ -126,11 +129,10 @@ module _ (m : Contents) (well : WellFormed m.metamodel) (s : Sound m) (h : House
       e
 
   sound-there : Sound there_now
-  unfolding goes
   sound-there = sound-relink goes come rootless sound-rootless (fits-one rootless well sound-rootless (leads_to mm o) new_link new-known (absent m new_link new) free)
 
   only : (q g x : ℕ) → contains there_now q g x ≡ true → ((contains m q g x ≡ true) × (x ≢ o)) ⊎ ((q ≡ p) × (g ≡ f) × (x ≡ o))
-  unfolding relink goes
+  unfolding relink
   only q g x c =
       let parts = contains-parts there_now q g x c in
       let held : Link = link q g (Object x) in
@@ -148,7 +150,6 @@ module _ (m : Contents) (well : WellFormed m.metamodel) (s : Sound m) (h : House
       (relink-Stands goes come rootless held parts.1)
 
   other-stays : (q g x : ℕ) → is_containment mm g ≡ true → x ≢ o → goes (link q g (Object x)) ≡ false
-  unfolding goes
   other-stays q g x c n = to_false _ (λ t.
       ⊎_elim
       (λ e. n (leads-object mm o q g x e).1)
@@ -161,7 +162,7 @@ module _ (m : Contents) (well : WellFormed m.metamodel) (s : Sound m) (h : House
       let parts = contains-parts m q g x c in
       contains-from there_now q g x parts.0 (relink-stays goes come rootless (link q g (Object x)) parts.1 (other-stays q g x parts.0 n))
 
-  is_there : contains there_now p f o ≡ true
+  pub is_there : contains there_now p f o ≡ true
   unfolding relink
   is_there = contains-from there_now p f o holds.containment (relink-comes goes come rootless new_link here)
 
@@ -187,7 +188,6 @@ module _ (m : Contents) (well : WellFormed m.metamodel) (s : Sound m) (h : House
   }
 
   moved-there : IsValid (change (leads_to mm o) (new_link ∷ []) rootless)
-  unfolding goes
   moved-there = valid there_now sound-there (housed-rehoused m there_now p f o rehoused h)
 
 moved-valid : (m : Contents) → WellFormed m.metamodel → IsValid m → (o p f : ℕ) → refusal_of_move m o p f ≡ None → IsValid (moved o p f m)

@@ -1,6 +1,7 @@
 pub mod ArrangedLemmas
 pub mod Changed
 pub mod Climbing
+pub mod EditEffects
 pub mod EditLaws
 pub mod EditSteps
 pub mod EmptyContents
