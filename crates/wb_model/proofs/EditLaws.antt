@@ -16,7 +16,7 @@ use Rattle.wb_model.specs.Contents.{Contents, kind, slot, has_object, contains}
 use Rattle.wb_model.specs.Cells.{tree}
 use Rattle.wb_model.specs.Valid.{opposite, is_root, Within, IsValid}
 use Rattle.wb_model.specs.Edits.{Link, link, relink, both_ends, change, is_at, same_link, gives_way, leads_to, touches, stands, is_among, is_value_among, is_live, link_up, unlink, emptied, moved, removed, created, with_object, without_root, refusal_of_link, refusal_of_take, refusal_of_unset, refusal_of_move, refusal_of_create, set, add, take_out, unset, move_to, remove, create}
-use Rattle.wb_model.specs.EditLaws.{IsEdited, KeepsOrder, NumbersAreFresh, IsNowhere}
+use Rattle.wb_model.specs.EditLaws.{IsEdited, KeepsOrder, NumbersAreFresh, GoesWith, IsNowhere}
 use Rattle.wb_model.specs.EditLaws.IsEdited.{by_set, by_add, by_take, by_unset, by_move, by_remove, by_create}
 use Rattle.wb_model.proofs.Changed.{IsAlone, alone-ends, both-same, relink-Stands}
 use Rattle.wb_model.proofs.EditSteps.{relink-agree, relink-none, filter-all, same_link-is}
@@ -105,11 +105,11 @@ module _ (m : Contents) (well : WellFormed m.metamodel) (v : IsValid m) (o : ℕ
   abbrev gone : List ℕ
   gone = o ∷ tree m o
 
-  gone-in : (x : ℕ) → (x ≡ o) ⊎ Within m o x → is_among gone x ≡ true
+  gone-in : (x : ℕ) → GoesWith m o x → is_among gone x ≡ true
   gone-in x e =
       In-among gone x (⊎_elim (λ s. subst (λ z. In z gone) (sym s) here) (λ w. there (within-tree m (sound m v) (housed m v).no_ring o x w)) e)
 
-  gone-from : (x : ℕ) → is_among gone x ≡ true → (x ≡ o) ⊎ Within m o x
+  gone-from : (x : ℕ) → is_among gone x ≡ true → GoesWith m o x
   gone-from x h = ⊎_elim (λ e. inl (sym e)) (λ i. inr (tree-within m o x i)) (In-cons o (tree m o) x (among-In gone x h))
 
   nowhere : (x : ℕ) → is_among gone x ≡ true → IsNowhere (removed o m) x
@@ -128,11 +128,11 @@ module _ (m : Contents) (well : WellFormed m.metamodel) (v : IsValid m) (o : ℕ
   removed-is n h = (accepted (cond (is_live m o) None (Some UnknownObject)) (removed o m) n h).1
 
   -- a removed object, and what it contained, is nowhere
-  pub removed-nowhere : (n : Contents) → remove m o ≡ Ok n → (x : ℕ) → (x ≡ o) ⊎ Within m o x → IsNowhere n x
+  pub removed-nowhere : (n : Contents) → remove m o ≡ Ok n → (x : ℕ) → GoesWith m o x → IsNowhere n x
   removed-nowhere n h x e = subst (λ k. IsNowhere k x) (removed-is n h) (nowhere x (gone-in x e))
 
   -- and the others stay
-  pub others-stay : (n : Contents) → remove m o ≡ Ok n → (x : ℕ) → ¬ ((x ≡ o) ⊎ Within m o x) → kind n x ≡ kind m x
+  pub others-stay : (n : Contents) → remove m o ≡ Ok n → (x : ℕ) → ¬ (GoesWith m o x) → kind n x ≡ kind m x
   others-stay n h x apart = ap (λ (k : Contents). kind k x) (sym (removed-is n h)) ∙ kind-stays m gone x (to_false _ (λ t. apart (gone-from x t)))
 
 -- ---- values keep their order
