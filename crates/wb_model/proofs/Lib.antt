@@ -1,6 +1,7 @@
 pub mod ArrangedLemmas
 pub mod Changed
 pub mod Climbing
+pub mod Descent
 pub mod EditEffects
 pub mod EditLaws
 pub mod EditSteps
@@ -26,6 +27,5 @@ pub mod Relinked
 pub mod RootLemmas
 pub mod Sound
 pub mod Steps
-pub mod Trees
 pub mod ValidSlots
 pub mod ValidTest
