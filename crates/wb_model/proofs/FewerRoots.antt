@@ -4,7 +4,7 @@ use Rattle.std.proofs.lemmas.Bool.{and_parts, and_from, false≢true, not-true, 
 use Rattle.std.specs.Prelude.{filter}
 use Rattle.wb_model.specs.Valid.{once}
 use Rattle.wb_model.specs.Edits.{is_among}
-use Rattle.wb_model.proofs.FeatureOwners.{filter-In, In-filter}
+use Rattle.wb_model.proofs.Filtered.{filter-In, In-filter}
 use Rattle.wb_model.proofs.LinkLemmas.{to_false}
 use Rattle.wb_model.proofs.Descent.{among-In, In-among}
 

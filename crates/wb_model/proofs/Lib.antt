@@ -9,6 +9,7 @@ pub mod EmptyContents
 pub mod Ends
 pub mod FeatureOwners
 pub mod FewerRoots
+pub mod Filtered
 pub mod Found
 pub mod Shown
 pub mod HolderLemmas

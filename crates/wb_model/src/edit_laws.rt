@@ -42,11 +42,11 @@ pub fn removed_objects_are_nowhere()
 
 /// Where there is nothing to change, nothing changes.
 pub fn edits_may_change_nothing()
-    ensures set { (m n : Contents) → IsValid m → (o f : ℕ) (v : Scalar) → stands m (link o f v) ≡ true → set m o f v ≡ Ok n → n ≡ m }
-    ensures add { (m n : Contents) → IsValid m → (o f : ℕ) (v : Scalar) → stands m (link o f v) ≡ true → add m o f v ≡ Ok n → n ≡ m }
+    ensures set { (m n : Contents) (o f : ℕ) (v : Scalar) → stands m (link o f v) ≡ true → set m o f v ≡ Ok n → n ≡ m }
+    ensures add { (m n : Contents) (o f : ℕ) (v : Scalar) → stands m (link o f v) ≡ true → add m o f v ≡ Ok n → n ≡ m }
     ensures take { (m n : Contents) → IsValid m → (o f : ℕ) (v : Scalar) → stands m (link o f v) ≡ false → take_out m o f v ≡ Ok n → n ≡ m }
     ensures unset { (m n : Contents) → IsValid m → (o f : ℕ) → slot m o f ≡ [] → unset m o f ≡ Ok n → n ≡ m }
-    ensures move_to { (m n : Contents) → IsValid m → (o p f : ℕ) → stands m (link p f (Object o)) ≡ true → move_to m o p f ≡ Ok n → n ≡ m }
+    ensures move_to { (m n : Contents) (o p f : ℕ) → stands m (link p f (Object o)) ≡ true → move_to m o p f ≡ Ok n → n ≡ m }
 {}
 
 /// What becomes of the slot of an edit of a plain feature.
@@ -54,7 +54,7 @@ pub fn edits_change_their_slot()
     ensures set { (m n : Contents) → WellFormed m.metamodel → IsValid m → (o f : ℕ) (v : Scalar) → set m o f v ≡ Ok n → slot n o f ≡ v ∷ [] }
     ensures add { (m n : Contents) → WellFormed m.metamodel → IsValid m → (o f : ℕ) (v : Scalar) → add m o f v ≡ Ok n → slot n o f ≡ (if stands m (link o f v) then slot m o f else slot m o f ++ v ∷ []) }
     ensures take { (m n : Contents) → WellFormed m.metamodel → IsValid m → (o f : ℕ) (v : Scalar) → take_out m o f v ≡ Ok n → slot n o f ≡ filter (λ w. not (same w v)) (slot m o f) }
-    ensures unset { (m n : Contents) → WellFormed m.metamodel → IsValid m → (o f : ℕ) → unset m o f ≡ Ok n → slot n o f ≡ [] }
+    ensures unset { (m n : Contents) (o f : ℕ) → unset m o f ≡ Ok n → slot n o f ≡ [] }
 {}
 
 /// A moved object is in its new container, last unless it was there.
@@ -65,8 +65,8 @@ pub fn moved_objects_have_their_container()
 
 /// A new object has the number `next` and its class, and is last among the roots or in its slot.
 pub fn created_objects_have_their_place()
-    ensures class { (m n : Contents) → WellFormed m.metamodel → IsValid m → (class : ℕ) (place : Place) → create m class place ≡ Ok n → kind n m.next ≡ Some class }
-    ensures root { (m n : Contents) → WellFormed m.metamodel → IsValid m → (class : ℕ) → create m class Root ≡ Ok n → n.roots ≡ m.roots ++ m.next ∷ [] }
+    ensures class { (m n : Contents) (class : ℕ) (place : Place) → create m class place ≡ Ok n → kind n m.next ≡ Some class }
+    ensures root { (m n : Contents) (class : ℕ) → create m class Root ≡ Ok n → n.roots ≡ m.roots ++ m.next ∷ [] }
     ensures holder { (m n : Contents) → WellFormed m.metamodel → IsValid m → (class p f : ℕ) → create m class (In p f) ≡ Ok n → holder n m.next ≡ Some (p, f) }
     ensures slot { (m n : Contents) → WellFormed m.metamodel → IsValid m → (class p f : ℕ) → create m class (In p f) ≡ Ok n → slot n p f ≡ slot m p f ++ Object m.next ∷ [] }
 {}
