@@ -30,7 +30,7 @@ use Rattle.wb_model.proofs.Members.{In}
 use Rattle.wb_model.proofs.Members.In.{here, there}
 use Rattle.wb_model.proofs.Relinked.{values_at, is_at-link, slot-relink}
 use Rattle.wb_model.proofs.Sound.{Stands, stands-In, In-stands, absent, Sound}
-use Rattle.wb_model.proofs.Descent.{tree-within, within-tree, among-In, In-among}
+use Rattle.wb_model.proofs.TreesWithin.{tree-within, within-tree, among-In, In-among}
 
 -- ---- validity
 

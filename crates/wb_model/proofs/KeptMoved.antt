@@ -29,7 +29,7 @@ use Rattle.wb_model.proofs.Members.In.{here}
 use Rattle.wb_model.proofs.Rehoused.{IsRehoused, housed-rehoused}
 use Rattle.wb_model.proofs.Relinked.{kind-relink}
 use Rattle.wb_model.proofs.Sound.{absent, contains-parts, contains-from, Sound, Housed}
-use Rattle.wb_model.proofs.Descent.{within-tree, In-among}
+use Rattle.wb_model.proofs.TreesWithin.{within-tree, In-among}
 
 -- ---- what an accepted edit says
 

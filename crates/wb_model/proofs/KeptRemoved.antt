@@ -30,7 +30,7 @@ use Rattle.wb_model.proofs.Members.{In, any_In}
 use Rattle.wb_model.proofs.Members.In.{there}
 use Rattle.wb_model.proofs.Relinked.{slot-relink}
 use Rattle.wb_model.proofs.Sound.{Stands, contains-parts, contains-from, Sound, Housed}
-use Rattle.wb_model.proofs.Descent.{tree-within, within-tree, among-In, In-among}
+use Rattle.wb_model.proofs.TreesWithin.{tree-within, within-tree, among-In, In-among}
 
 -- ---- values among objects
 

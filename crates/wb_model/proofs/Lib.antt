@@ -1,7 +1,6 @@
 pub mod ArrangedLemmas
 pub mod Changed
 pub mod Climbing
-pub mod Descent
 pub mod EditEffects
 pub mod EditLaws
 pub mod EditSteps
@@ -23,10 +22,12 @@ pub mod Made
 pub mod Maps
 pub mod Members
 pub mod MoveSteps
+pub mod OtherFeatures
 pub mod Rehoused
 pub mod Relinked
 pub mod RootLemmas
 pub mod Sound
 pub mod Steps
+pub mod TreesWithin
 pub mod ValidSlots
 pub mod ValidTest

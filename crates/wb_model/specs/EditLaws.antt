@@ -1,9 +1,9 @@
 -- What is true of every edit that is accepted.
-use Rattle.std.specs.Prelude.{◌≡◌, ℕ, suc, ◌≤◌, ◌⊎◌, Bool, false, List, [], ◌++◌, filter, length, IsSome, None, Ok}
+use Rattle.std.specs.Prelude.{◌≡◌, ◌≢◌, ℕ, suc, ◌≤◌, ◌⊎◌, Bool, false, List, [], ◌++◌, filter, length, IsSome, Some, None, Ok}
 use Rattle.wb_model.specs.declared.scalars.Scalar.{Scalar}
 use Rattle.wb_model.specs.declared.scalars.Place.{Place}
 use Rattle.wb_model.specs.Contents.{Contents, kind, slot, has_object}
-use Rattle.wb_model.specs.Valid.{is_root, Within}
+use Rattle.wb_model.specs.Valid.{is_root, opposite, Within}
 use Rattle.wb_model.specs.Edits.{set, add, take_out, unset, move_to, remove, create}
 
 -- the second model is what an accepted edit makes of the first
@@ -22,6 +22,12 @@ pub record KeepsOrder (old new : List Scalar) : Type 0 where
   pub last : List Scalar
   pub one : length last ≤ 1
   pub is : new ≡ filter stays old ++ last
+
+-- of all slots only those of a feature and its opposite change, and of the rest nothing
+pub record ChangesOnly (m n : Contents) (f : ℕ) : Type 0 where
+  pub slots : (o h : ℕ) → h ≢ f → opposite m.metamodel f ≢ Some h → slot n o h ≡ slot m o h
+  pub classes : (o : ℕ) → kind n o ≡ kind m o
+  pub roots : n.roots ≡ m.roots
 
 -- a number that an edit gives to an object was given to none before
 pub record NumbersAreFresh (m n : Contents) : Type 0 where

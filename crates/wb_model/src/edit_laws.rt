@@ -11,7 +11,7 @@ ghost use Rattle.wb_model.specs.Contents.{Contents, kind, slot, has_object};
 ghost use Rattle.wb_model.specs.Cells.{holder};
 ghost use Rattle.wb_model.specs.Valid.{opposite, IsValid};
 ghost use Rattle.wb_model.specs.Edits.{link, stands, set, add, take_out, unset, move_to, remove, create};
-ghost use Rattle.wb_model.specs.EditLaws.{IsEdited, KeepsOrder, NumbersAreFresh, GoesWith, IsNowhere};
+ghost use Rattle.wb_model.specs.EditLaws.{IsEdited, KeepsOrder, ChangesOnly, NumbersAreFresh, GoesWith, IsNowhere};
 
 /// An edit leaves a valid model, of the same metamodel.
 pub fn edits_keep_models_valid()
@@ -55,6 +55,14 @@ pub fn edits_change_their_slot()
     ensures add { (m n : Contents) → WellFormed m.metamodel → IsValid m → (o f : ℕ) (v : Scalar) → add m o f v ≡ Ok n → slot n o f ≡ (if stands m (link o f v) then slot m o f else slot m o f ++ v ∷ []) }
     ensures take { (m n : Contents) → WellFormed m.metamodel → IsValid m → (o f : ℕ) (v : Scalar) → take_out m o f v ≡ Ok n → slot n o f ≡ filter (λ w. not (same w v)) (slot m o f) }
     ensures unset { (m n : Contents) (o f : ℕ) → unset m o f ≡ Ok n → slot n o f ≡ [] }
+{}
+
+/// An edit of a plain feature leaves all but the slots of this feature and its opposite.
+pub fn edits_leave_other_features()
+    ensures set { (m n : Contents) → WellFormed m.metamodel → (o f : ℕ) (v : Scalar) → set m o f v ≡ Ok n → ChangesOnly m n f }
+    ensures add { (m n : Contents) → WellFormed m.metamodel → (o f : ℕ) (v : Scalar) → add m o f v ≡ Ok n → ChangesOnly m n f }
+    ensures take { (m n : Contents) → WellFormed m.metamodel → (o f : ℕ) (v : Scalar) → take_out m o f v ≡ Ok n → ChangesOnly m n f }
+    ensures unset { (m n : Contents) → WellFormed m.metamodel → (o f : ℕ) → unset m o f ≡ Ok n → ChangesOnly m n f }
 {}
 
 /// A moved object is in its new container, last unless it was there.
