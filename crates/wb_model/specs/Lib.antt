@@ -10,6 +10,7 @@ pub mod Flaws
 pub mod Links
 pub mod Parts
 pub mod Places
+pub mod RecordEdits
 pub mod Records
 pub mod Roots
 pub mod ScalarLaws
