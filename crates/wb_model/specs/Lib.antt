@@ -4,10 +4,13 @@ pub mod Checks
 pub mod Climbs
 pub mod Conditions
 pub mod Contents
+pub mod EditLaws
+pub mod Edits
 pub mod Flaws
 pub mod Links
 pub mod Parts
 pub mod Places
+pub mod RecordEdits
 pub mod Records
 pub mod Roots
 pub mod ScalarLaws

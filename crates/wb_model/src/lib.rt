@@ -3,10 +3,12 @@
 
 mod arranged;
 mod building;
+mod change_list;
 mod checks;
 mod climbs;
 mod conditions;
 mod containment;
+mod edit_laws;
 mod flaws;
 mod holders;
 mod holding;
@@ -14,13 +16,22 @@ mod links;
 mod model;
 mod parts;
 mod records;
+mod refusals;
 mod scalars;
 mod store;
 mod uncontained;
 mod validity;
 
 pub use building::build;
+pub use change_list::ChangeList;
+pub use edit_laws::{
+    created_objects_have_their_place, edits_change_their_slot, edits_give_new_numbers,
+    edits_keep_models_valid, edits_keep_opposites, edits_keep_the_order,
+    edits_leave_other_features, edits_may_change_nothing, moved_objects_have_their_container,
+    removed_objects_are_nowhere,
+};
 pub use model::{Model, empty};
+pub use refusals::ModelRefusal;
 pub use parts::{BuildRefusal, Part, SlotPart};
 pub use scalars::{Cell, Place, Scalar};
 pub use validity::validity_is_decided;

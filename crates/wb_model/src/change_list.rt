@@ -1,0 +1,10 @@
+/// What edits have changed since the list was begun.
+#[derive(Debug, Drop)]
+pub struct ChangeList {}
+
+impl ChangeList {
+    /// Nothing has changed yet.
+    pub fn new() -> ChangeList {
+        ChangeList {}
+    }
+}
