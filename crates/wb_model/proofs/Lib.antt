@@ -10,5 +10,6 @@ pub mod Maps
 pub mod Members
 pub mod RootLemmas
 pub mod Steps
+pub mod Trees
 pub mod ValidSlots
 pub mod ValidTest
