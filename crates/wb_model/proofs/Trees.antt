@@ -1,8 +1,10 @@
 -- What an object of a valid model contains, and that a tree is made of the trees of what its object contains.
-use Rattle.std.proofs.Common.{◌≡◌, ℕ, ◌+◌, ◌<◌, ◌≤◌, suc, zero, Bool, true, false, List, [], ◌∷◌, ◌++◌, map, length, Option, Some, None, refl, sym, ap, subst, ◌∙◌, cond, arith}
+use Rattle.std.proofs.Common.{◌≡◌, ℕ, ◌+◌, ◌<◌, ◌≤◌, suc, zero, Bool, true, false, List, [], ◌∷◌, ◌++◌, map, length, Option, Some, None, refl, sym, ap, subst, ◌∙◌, cond, arith, append_assoc, reverse}
 use Rattle.std.proofs.lemmas.Bool.{and_from, both_ways, false≢true, false_from_ne_true}
 use Rattle.std.proofs.lemmas.Cmp.{nat_cmp_total}
 use Rattle.std.proofs.Math.ListN.{length-map}
+use Rattle.std.proofs.lemmas.Grind.{flat_map-append}
+use Rattle.std.proofs.lemmas.List.{reverse-append, reverse-reverse}
 use Rattle.std.specs.Prelude.{filter, IsSome}
 use Rattle.std.specs.Option.{option_map_or}
 use Rattle.std.specs.List.{flat_map, list_all}
@@ -198,3 +200,33 @@ module _ (m : Contents) where
   pub tree-content : IsValid m → (o : ℕ) → tree m o ≡ flat_map (λ p. p ∷ tree m p) (content m o)
   unfolding IsValid
   tree-content valid o = tree_of valid o
+
+-- ---- a walk over a tree, with the objects to come, the next one last
+
+abbrev pub trees : Contents → List ℕ → List ℕ
+trees m os = flat_map (λ p. p ∷ tree m p) os
+
+module _ (m : Contents) (valid : IsValid m) where
+  pub walk_begins : (o : ℕ) → trees m (reverse (reverse (content m o))) ≡ tree m o
+  walk_begins o = ap (trees m) (reverse-reverse (content m o)) ∙ sym (tree-content m valid o)
+
+  module _ (rest : List ℕ) (p : ℕ) (old next inner : List ℕ) (popped : old ≡ rest ++ p ∷ []) (within : inner ≡ reverse (content m p)) (more : next ≡ rest ++ inner) where
+    before : trees m (reverse old) ≡ p ∷ (tree m p ++ trees m (reverse rest))
+    before = ap (λ os. trees m (reverse os)) popped ∙ ap (trees m) (reverse-append rest (p ∷ []))
+
+    after : trees m (reverse next) ≡ tree m p ++ trees m (reverse rest)
+    after =
+        ap (λ os. trees m (reverse os)) (more ∙ ap (λ os. rest ++ os) within)
+        ∙ ap (trees m) (reverse-append rest (reverse (content m p)) ∙ ap (λ os. os ++ reverse rest) (reverse-reverse (content m p)))
+        ∙ flat_map-append (λ p. p ∷ tree m p) (content m p) (reverse rest)
+        ∙ ap (λ os. os ++ trees m (reverse rest)) (sym (tree-content m valid p))
+
+    pub walk_smaller : length (trees m (reverse next)) < length (trees m (reverse old))
+    walk_smaller = let a = ap (λ (os : List ℕ). length os) before in let b = ap (λ (os : List ℕ). length os) after in omega (arith, a, b)
+
+    pub walk_goes_on : (done visited : List ℕ) → visited ≡ done ++ p ∷ [] → visited ++ trees m (reverse next) ≡ done ++ trees m (reverse old)
+    walk_goes_on done visited e =
+        ap (λ os. os ++ trees m (reverse next)) e
+        ∙ append_assoc done (p ∷ []) (trees m (reverse next))
+        ∙ ap (λ os. done ++ (p ∷ os)) after
+        ∙ ap (λ os. done ++ os) (sym before)

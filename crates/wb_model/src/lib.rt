@@ -18,13 +18,14 @@ mod records;
 mod refusals;
 mod scalars;
 mod store;
+mod tree;
 mod uncontained;
 mod validity;
 
 pub use building::build;
 pub use change_list::ChangeList;
 pub use model::{Model, empty};
-pub use refusals::ModelRefusal;
 pub use parts::{BuildRefusal, Part, SlotPart};
+pub use refusals::ModelRefusal;
 pub use scalars::{Cell, Place, Scalar};
 pub use validity::validity_is_decided;
