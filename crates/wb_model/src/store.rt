@@ -4,12 +4,13 @@ ghost use Rattle.wb_model.specs.Contents.{kind, slot, empty_contents};
 ghost use Rattle.wb_model.specs.Cells.{holder};
 
 use crate::arranged::arranged_records;
+use crate::copies::{copy_objects, copy_records};
 use crate::parts::Part;
 use crate::records::{Record, find_object, holding_object, values_of};
 use crate::scalars::Scalar;
 use std::alloc::{AllocError, Global};
 use std::marker::Model;
-use wb_base::List;
+use wb_base::{Duplicate, List};
 use wb_metamodel::{ClassId, FeatureId, Metamodel, ObjectId};
 
 /// Objects with their slots, whether they make a valid model or not.
@@ -134,5 +135,16 @@ impl Store {
         ensures { result ≡ holder self.now o }
     {
         holding_object(&self.metamodel, self.records.as_slice(), o)
+    }
+}
+
+impl Duplicate for Store {
+    fn copy(&self, alloc: Global) -> Result<Store, AllocError> {
+        Ok(Store {
+            metamodel: self.metamodel.copy(alloc)?,
+            next: self.next,
+            records: copy_records(alloc, &self.records)?,
+            roots: copy_objects(alloc, self.roots.as_slice())?,
+        })
     }
 }
