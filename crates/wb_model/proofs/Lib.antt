@@ -1,13 +1,17 @@
 pub mod ArrangedLemmas
+pub mod Breaches
 pub mod Climbing
 pub mod EmptyContents
+pub mod Findings
 pub mod Found
 pub mod Shown
 pub mod HolderLemmas
 pub mod LinkLemmas
 pub mod Made
 pub mod Maps
+pub mod Marked
 pub mod Members
+pub mod RingLemmas
 pub mod RootLemmas
 pub mod Steps
 pub mod Trees

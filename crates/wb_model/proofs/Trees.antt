@@ -57,7 +57,7 @@ module _ {A : Type 0} where
       ] refl
 
   -- one more passes the weaker test
-  one_fewer : (p q : A → Bool) (xs : List A) (k : A) → ((x : A) → p x ≡ true → q x ≡ true) → In k xs → p k ≡ false → q k ≡ true → length (filter p xs) < length (filter q xs)
+  pub one_fewer : (p q : A → Bool) (xs : List A) (k : A) → ((x : A) → p x ≡ true → q x ≡ true) → In k xs → p k ≡ false → q k ≡ true → length (filter p xs) < length (filter q xs)
   one_fewer p q [] k h m low high = elim m [ ]
   one_fewer p q (z ∷ xs) k h here low high =
       let rest = fewer p q xs h in
@@ -70,7 +70,7 @@ module _ {A : Type 0} where
         | false ↦ λ e. elim (q x) as (λ b. length (filter p xs) < length (cond b (x ∷ filter q xs) (filter q xs))) [ true ↦ omega (arith, rest) | false ↦ rest ]
       ] refl
 
-  all_pass : (xs : List A) → length (filter (λ x. true) xs) ≡ length xs
+  pub all_pass : (xs : List A) → length (filter (λ x. true) xs) ≡ length xs
   all_pass [] = refl
   all_pass (x ∷ xs) = let rest = all_pass xs in omega (arith, rest)
 

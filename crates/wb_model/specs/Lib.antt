@@ -1,7 +1,7 @@
 pub mod Arranged
 pub mod Cells
-pub mod Checks
-pub mod Climbs
+pub mod Broken
+pub mod Marks
 pub mod Conditions
 pub mod Contents
 pub mod Edits
@@ -10,6 +10,7 @@ pub mod Links
 pub mod Parts
 pub mod Places
 pub mod Records
+pub mod Rings
 pub mod Roots
 pub mod ScalarLaws
 pub mod Scalars

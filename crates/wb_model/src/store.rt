@@ -40,6 +40,9 @@ impl Model for Store {
 }
 
 impl Store {
+    ghost use Rattle.std.specs.Prelude.{List as Many};
+    ghost use Rattle.wb_model.specs.declared.records.Record.{Record as Kept};
+    ghost use Rattle.wb_model.specs.Links.{Kept as IsKept};
     ghost use Rattle.wb_model.specs.Records.{contents_of, IsPlain};
     ghost use Rattle.wb_model.specs.Parts.{AreParts, made_of};
 
@@ -92,6 +95,13 @@ impl Store {
         ensures { result.now ≡ self.now.roots }
     {
         self.roots.as_slice()
+    }
+
+    /// What is true of every store.
+    pub fn is_kept(&self)
+        ensures { (records : Many Kept) × IsKept self.now records }
+    {
+        let _ = &self.records;
     }
 
     /// The objects, ascending by number.
