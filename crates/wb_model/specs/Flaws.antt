@@ -13,10 +13,11 @@ Finds (Err (At number o)) breach = breach ≡ Some (number, Some o)
 Finds (Err (Whole number)) breach = breach ≡ Some (number, None)
 Finds (Err NoMemory) breach = Unit {0}
 
--- what a refusal says of the breach
-abbrev pub Names : BuildRefusal → Option Breach → Type 0
-Names (Broken number o) breach = breach ≡ Some (number, o)
-Names OutOfMemory breach = Unit {0}
+-- what a building answers: a model where there is no breach, and else the breach that there is
+abbrev pub Names : {A : Type 0} → Result A BuildRefusal → Option Breach → Type 0
+Names (Ok x) breach = breach ≡ None
+Names (Err (Broken number o)) breach = breach ≡ Some (number, o)
+Names (Err OutOfMemory) breach = Unit {0}
 
 abbrev pub refusal_of : Flaw → BuildRefusal
 refusal_of (At number object) = Broken number (Some object)

@@ -26,7 +26,7 @@ pub fn build(
     ensures made { IfOk result (λ model. model ≡ made_of metamodel next objects roots) }
     ensures accepted { OnOk result (MakeModel metamodel next objects roots) }
     ensures refused { IfErr result (λ refusal. Refutes refusal (MakeModel metamodel next objects roots)) }
-    ensures named { IfErr result (λ refusal. Names refusal (broken (made_of metamodel next objects roots) (miswritten metamodel objects))) }
+    ensures named { Names result (broken (made_of metamodel next objects roots) (miswritten metamodel objects)) }
 {
     let wrong = miswritten(alloc, &metamodel, objects.as_slice())?;
     let store = Store::from_parts(alloc, metamodel, next, objects, roots)?;
