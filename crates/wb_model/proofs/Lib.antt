@@ -1,5 +1,6 @@
 pub mod ArrangedLemmas
 pub mod Changed
+pub mod Breaches
 pub mod Climbing
 pub mod EditEffects
 pub mod EditLaws
@@ -9,6 +10,7 @@ pub mod Ends
 pub mod FeatureOwners
 pub mod FewerRoots
 pub mod Filtered
+pub mod Findings
 pub mod Found
 pub mod Shown
 pub mod HolderLemmas
@@ -20,15 +22,18 @@ pub mod LinkLemmas
 pub mod Live
 pub mod Made
 pub mod Maps
+pub mod Marked
 pub mod Members
 pub mod MoveSteps
 pub mod OtherFeatures
 pub mod RecordEdits
 pub mod Rehoused
 pub mod Relinked
+pub mod RingLemmas
 pub mod RootLemmas
 pub mod Sound
 pub mod Steps
 pub mod TreesWithin
+pub mod Trees
 pub mod ValidSlots
 pub mod ValidTest

@@ -1,5 +1,5 @@
 -- The links of a list of objects are what these objects contain.
-use Rattle.std.proofs.Common.{◌≡◌, ℕ, ◌<◌, suc, zero, Bool, true, false, ◌&&◌, ◌||◌, List, [], ◌∷◌, length, get_or, Option, Some, None, refl, sym, ap, subst, ◌∙◌, cond, eqb, ltb, arith}
+use Rattle.std.proofs.Common.{◌≡◌, ℕ, ◌<◌, suc, zero, Bool, true, false, ◌&&◌, ◌||◌, List, [], ◌∷◌, length, get_or, Option, Some, None, refl, sym, ap, subst, ◌∙◌, cond, eqb, ltb, leb, arith}
 use Rattle.std.specs.Option.{option_map, option_map_or, IsSome}
 use Rattle.std.specs.List.{flat_map, list_any, slice_get}
 use Rattle.std.proofs.lemmas.Bool.{and_parts, eqb-true, false≢true}
@@ -16,11 +16,13 @@ use Rattle.wb_model.specs.Contents.{Contents, is_containment, has_object, contai
 use Rattle.wb_model.specs.Places.{rises, numbered, IsPlaceOf}
 use Rattle.wb_model.specs.Records.{id_of, feature_of, values_in}
 use Rattle.wb_model.specs.Valid.{AreContainedOnce}
-use Rattle.wb_model.specs.Links.{link, slot_links, record_links, links_of, Kept, IsHeldTwice, Holding, KnowsHolders, Knows}
+use Rattle.wb_model.specs.Links.{link, slot_links, record_links, links_of, Kept, AreHolders, KnowsHolders}
+use Rattle.wb_model.specs.Broken.{is_held_twice}
 use Rattle.wb_model.proofs.Found.{is_itself}
 use Rattle.wb_model.proofs.Maps.{kind-numbered, slot-numbered}
 use Rattle.wb_model.proofs.Members.{In, In-flat_map, flat_map-In, In-all, any_In, Contains-In, In-Contains}
 use Rattle.wb_model.proofs.Members.In.{here, there}
+use Rattle.wb_model.proofs.ValidSlots.{holders_same, holders_few}
 
 above_other : (a n : ℕ) → ltb a n ≡ true → eqb n a ≡ false
 above_other a n h = grind (arith, nat_tests)
@@ -66,6 +68,15 @@ both_true a b h l = λ i. h i && l i
 
 itself : (o : ℕ) → same (Object o) (Object o) ≡ true
 itself o = is_itself o
+
+more_than_one : (n : ℕ) → (leb n 1 ≡ true → ⊥) → ltb 1 n ≡ true
+more_than_one n h = elim (leb n 1) as (λ b. leb n 1 ≡ b → ltb 1 n ≡ true) [
+  | true ↦ λ e. absurd (h e)
+  | false ↦ λ e. grind (arith, nat_tests)
+] refl
+
+at_most_one : (n : ℕ) → leb n 1 ≡ true → ltb 1 n ≡ false
+at_most_one n h = grind (arith, nat_tests)
 
 -- ---- the links of one value
 
@@ -166,20 +177,41 @@ module _ (m : Contents) (rs : List Record) (kept : Kept m rs) where
       let in_r = In-Contains rs r i (slice_get_within rs i r e) (get_or_from_slice_get rs i r r e) in
       subst IsSome (sym (kind_at r.id ∙ ap (option_map (λ (r : Record). r.class)) (numbered_In id_of rs r rise in_r))) refl
 
-  not_twice : IsHeldTwice rs (links_of m.metamodel rs) → AreContainedOnce m → ⊥
-  not_twice twice once =
-      let f = place_get id_of rs twice.first.object twice.place twice.to_first in
-      let g = place_get id_of rs twice.second.object twice.place twice.to_second in
-      let objects : twice.second.object ≡ twice.first.object = sym g.2 ∙ ap (λ (r : Record). r.id) (same_Some g.0 f.0 (sym g.1 ∙ f.1)) ∙ f.2 in
-      let a = links_sound twice.first (In-Contains _ twice.first twice.has_first.0 twice.has_first.1 twice.has_first.2) in
-      let b = links_sound twice.second (In-Contains _ twice.second twice.has_second.0 twice.has_second.1 twice.has_second.2) in
-      let live = subst (λ o. IsSome (kind m o)) f.2 (live_at twice.place f.0 f.1) in
-      let e = once twice.first.object twice.first.container twice.second.container twice.first.feature twice.second.feature live a (subst (λ o. contains m twice.second.container twice.second.feature o ≡ true) objects b) in
-      twice.differ (λ i. record { container = e.0 i; feature = e.1 i; object = sym objects i })
+  module _ (hs : List (Option Link)) (ts : List Bool) (holders : AreHolders rs (links_of m.metamodel rs) hs ts) (i : ℕ) (r : Record) (e : slice_get rs i ≡ Some r) where
+    -- an object that two links hold stands in two containment slots
+    held_twice : slice_get ts i ≡ Some true → is_held_twice m r.id ≡ true
+    held_twice t =
+        let twice = holders.others i t in
+        let f = place_get id_of rs twice.first.object i twice.to_first in
+        let g = place_get id_of rs twice.second.object i twice.to_second in
+        let one : twice.first.object ≡ r.id = sym f.2 ∙ ap (λ (r : Record). r.id) (same_Some f.0 r (sym f.1 ∙ e)) in
+        let two : twice.second.object ≡ r.id = sym g.2 ∙ ap (λ (r : Record). r.id) (same_Some g.0 r (sym g.1 ∙ e)) in
+        let a = subst (λ o. contains m twice.first.container twice.first.feature o ≡ true) one (links_sound twice.first (In-Contains _ twice.first twice.has_first.0 twice.has_first.1 twice.has_first.2)) in
+        let b = subst (λ o. contains m twice.second.container twice.second.feature o ≡ true) two (links_sound twice.second (In-Contains _ twice.second twice.has_second.0 twice.has_second.1 twice.has_second.2)) in
+        more_than_one _ (λ few.
+        let s = holders_same m r.id few twice.first.container twice.second.container twice.first.feature twice.second.feature a b in
+        twice.differ (λ i. record { container = s.0 i; feature = s.1 i; object = (one ∙ sym two) i }))
 
-  pub knows : (r : Option (List (Option Link))) → Holding rs (links_of m.metamodel rs) r → Knows m rs r
-  knows None twice = not_twice twice
-  knows (Some hs) holders = record {
+    one_link : slice_get ts i ≡ Some false → (p q f g : ℕ) → contains m p f r.id ≡ true → contains m q g r.id ≡ true → (p ≡ q) × (f ≡ g)
+    one_link t p q f g a b =
+        let k : Link = record { container = p; feature = f; object = r.id } in
+        let l : Link = record { container = q; feature = g; object = r.id } in
+        let x = holders.all k i (Contains-In _ k (links_complete p f r.id a)) (place_at id_of rs i r e) t in
+        let y = holders.all l i (Contains-In _ l (links_complete q g r.id b)) (place_at id_of rs i r e) t in
+        let s = same_Some k l (same_Some (Some k) (Some l) (sym x ∙ y)) in
+        (ap (λ (l : Link). l.container) s, ap (λ (l : Link). l.feature) s)
+
+    held_once : slice_get ts i ≡ Some false → is_held_twice m r.id ≡ false
+    held_once t = at_most_one _ (holders_few m r.id (one_link t))
+
+    -- the mark of an object says whether it stands in two containment slots
+    pub twice_marked : (mark : Bool) → slice_get ts i ≡ Some mark → mark ≡ is_held_twice m r.id
+    twice_marked true t = sym (held_twice t)
+    twice_marked false t = sym (held_once t)
+
+  -- where no object is marked, the links are the holders
+  pub knows : (hs : List (Option Link)) (ts : List Bool) → AreHolders rs (links_of m.metamodel rs) hs ts → ((i : ℕ) (r : Record) → slice_get rs i ≡ Some r → slice_get ts i ≡ Some false) → KnowsHolders m rs hs
+  knows hs ts holders once = record {
     each = holders.each;
     held = λ i r l er el.
         let o = holders.only l i el in
@@ -189,12 +221,12 @@ module _ (m : Contents) (rs : List Record) (kept : Kept m rs) where
         subst (λ o. contains m l.container l.feature o ≡ true) (sym id) (links_sound l (In-Contains _ l c.0 c.1 c.2));
     only = λ i r l er el p f h.
         let k : Link = record { container = p; feature = f; object = r.id } in
-        let g = holders.all k i (Contains-In _ k (links_complete p f r.id h)) (place_at id_of rs i r er) in
+        let g = holders.all k i (Contains-In _ k (links_complete p f r.id h)) (place_at id_of rs i r er) (once i r er) in
         let s = same_Some k l (same_Some (Some k) (Some l) (sym g ∙ el)) in
         (ap (λ (l : Link). l.container) s, ap (λ (l : Link). l.feature) s);
     free = λ i r er el p f. to_false _ (λ h.
         let k : Link = record { container = p; feature = f; object = r.id } in
-        let g = holders.all k i (Contains-In _ k (links_complete p f r.id h)) (place_at id_of rs i r er) in
+        let g = holders.all k i (Contains-In _ k (links_complete p f r.id h)) (place_at id_of rs i r er) (once i r er) in
         none-some k (same_Some None (Some k) (sym el ∙ g)));
   }
 

@@ -1,7 +1,7 @@
 pub mod Arranged
 pub mod Cells
-pub mod Checks
-pub mod Climbs
+pub mod Broken
+pub mod Marks
 pub mod Conditions
 pub mod Contents
 pub mod EditLaws
@@ -12,6 +12,7 @@ pub mod Parts
 pub mod Places
 pub mod RecordEdits
 pub mod Records
+pub mod Rings
 pub mod Roots
 pub mod ScalarLaws
 pub mod Scalars

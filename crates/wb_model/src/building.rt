@@ -1,7 +1,8 @@
 ghost use Rattle.std.specs.Prelude.{◌≡◌, true, IfOk, OnOk, IfErr};
 ghost use Rattle.std.specs.List.{list_all};
-ghost use Rattle.wb_model.specs.Flaws.{refusal_of};
-ghost use Rattle.wb_model.specs.Parts.{AreParts, MakeModel, Refutes, made_of, is_listed, is_listed_slot, slot_of, are_known};
+ghost use Rattle.wb_model.specs.Broken.{broken, miswritten};
+ghost use Rattle.wb_model.specs.Flaws.{Names, refusal_of};
+ghost use Rattle.wb_model.specs.Parts.{AreParts, MakeModel, Refutes, made_of, is_listed_slot, slot_of, are_known};
 ghost use Rattle.wb_model.specs.Records.{is_known_slot};
 
 use crate::checks::check_all;
@@ -9,11 +10,11 @@ use crate::flaws::Flaw;
 use crate::model::Model;
 use crate::parts::{BuildRefusal, Part, SlotPart};
 use crate::store::Store;
-use std::alloc::Global;
+use std::alloc::{AllocError, Global};
 use wb_base::List;
 use wb_metamodel::{Metamodel, ObjectId};
 
-/// The model that parts make, or why they make none.
+/// The model that parts make, or the first condition of a valid model that they break.
 pub fn build(
     alloc: Global,
     metamodel: Metamodel,
@@ -25,13 +26,12 @@ pub fn build(
     ensures made { IfOk result (λ model. model ≡ made_of metamodel next objects roots) }
     ensures accepted { OnOk result (MakeModel metamodel next objects roots) }
     ensures refused { IfErr result (λ refusal. Refutes refusal (MakeModel metamodel next objects roots)) }
+    ensures named { Names result (broken (made_of metamodel next objects roots) (miswritten metamodel objects)) }
 {
-    let listed = are_listed(&metamodel, objects.as_slice());
-    let store = match Store::from_parts(alloc, metamodel, next, objects, roots) {
-        Ok(store) => store,
-        Err(_) => return Err(BuildRefusal::NoMemory),
-    };
-    match check_all(alloc, &store, listed) {
+    let wrong = miswritten(alloc, &metamodel, objects.as_slice())?;
+    let store = Store::from_parts(alloc, metamodel, next, objects, roots)?;
+    store.is_kept();
+    match check_all(alloc, &store, wrong.as_slice()) {
         Ok(()) => Ok(Model::new(store)),
         Err(flaw) => Err(refusal_of(flaw)),
     }
@@ -47,17 +47,22 @@ fn refusal_of(flaw: Flaw) -> BuildRefusal
     }
 }
 
-// Is each slot not empty, and written as a list exactly where its feature has many values?
-fn are_listed(metamodel: &Metamodel, parts: &[Part]) -> bool
+// The objects with a slot that is empty, or not written as a list exactly where its feature has many values.
+fn miswritten(
+    alloc: Global,
+    metamodel: &Metamodel,
+    parts: &[Part],
+) -> Result<Vec<ObjectId>, AllocError>
     requires { are_known metamodel.now parts.now ≡ true }
-    ensures { result ≡ list_all (is_listed metamodel.now) parts.now }
+    ensures { IfOk result (λ wrong. wrong.items ≡ miswritten metamodel.now parts.now) }
 {
+    let mut wrong = Vec::new(alloc);
     for part in parts {
         if !slots_are_listed(metamodel, part.slots.as_slice()) {
-            return false;
+            wrong.push(part.id)?;
         }
     }
-    true
+    Ok(wrong)
 }
 
 fn slots_are_listed(metamodel: &Metamodel, slots: &[SlotPart]) -> bool

@@ -1,99 +1,93 @@
-ghost use Rattle.std.specs.Prelude.{◌≡◌, true, OnOk, IfErr};
-ghost use Rattle.wb_model.specs.Checks.{MeetsFirst, MeetsValues, MeetsContainment, MeetsAll};
-ghost use Rattle.wb_model.specs.Conditions.{meets};
-ghost use Rattle.wb_model.specs.Flaws.{Denies};
-ghost use Rattle.wb_model.specs.Valid.{every_slot, numbers_are_spent, classes_are_concrete};
+ghost use Rattle.std.specs.Prelude.{◌≡◌};
+ghost use Rattle.wb_model.specs.Broken.{shown_by, unless, broken, broken_number, broken_first, broken_values, broken_holding, broken_containment};
+ghost use Rattle.wb_model.specs.Flaws.{Finds};
+ghost use Rattle.wb_model.specs.Links.{Kept, KnowsHolders};
 
-use crate::climbs::none_within_itself;
-use crate::conditions::{Condition, abstract_object, breaking_object, numbers_are_spent};
+use crate::conditions::{
+    Condition, abstract_object, breaking_object, crowded_object, misnumbered_object,
+};
+use crate::containment::Link;
 use crate::flaws::Flaw;
-use crate::holding::links_to_objects;
+use crate::holders::holders;
+use crate::links::containment_links;
+use crate::marks::first_marked;
+use crate::records::Record;
+use crate::rings::object_on_ring;
 use crate::store::Store;
 use crate::uncontained::roots_are_uncontained;
 use std::alloc::Global;
+use wb_metamodel::ObjectId;
 
-/// Whether all conditions of a valid model hold, or one that does not.
-pub fn check_all(alloc: Global, store: &Store, listed: bool) -> Result<(), Flaw>
-    ensures met { OnOk result (MeetsAll store.now listed) }
-    ensures broken { IfErr result (λ flaw. Denies flaw (MeetsAll store.now listed)) }
+/// The first condition of a valid model that is broken. The objects that are `wrong` have a slot that is not written
+/// as it is to be.
+pub fn check_all(alloc: Global, store: &Store, wrong: &[ObjectId]) -> Result<(), Flaw>
+    ensures { Finds result (broken store.now wrong.now) }
 {
-    check_first(store, listed)?;
+    check_first(store, wrong)?;
     check_values(store)?;
     check_containment(alloc, store)
 }
 
-fn check_first(store: &Store, listed: bool) -> Result<(), Flaw>
-    ensures met { OnOk result (MeetsFirst store.now listed) }
-    ensures broken { IfErr result (λ flaw. Denies flaw (MeetsFirst store.now listed)) }
+fn check_first(store: &Store, wrong: &[ObjectId]) -> Result<(), Flaw>
+    ensures { Finds result (broken_first store.now wrong.now) }
 {
     check_numbers(store)?;
-    check_classes(store)?;
-    check_slots(store, Condition::OfClass, 3)?;
-    check_listed(listed)?;
-    check_slots(store, Condition::HasRoom, 4)
-}
-
-fn check_values(store: &Store) -> Result<(), Flaw>
-    ensures met { OnOk result (MeetsValues store.now) }
-    ensures broken { IfErr result (λ flaw. Denies flaw (MeetsValues store.now)) }
-{
-    check_slots(store, Condition::OfKinds, 5)?;
-    check_slots(store, Condition::Differ, 6)?;
-    check_slots(store, Condition::HeldBack, 7)
+    passed(2, abstract_object(store))?;
+    passed(3, breaking_object(store, Condition::OfClass))?;
+    passed(4, crowded_object(store, wrong))
 }
 
 fn check_numbers(store: &Store) -> Result<(), Flaw>
-    ensures met { OnOk result (numbers_are_spent store.now ≡ true) }
-    ensures broken { IfErr result (λ flaw. Denies flaw (numbers_are_spent store.now ≡ true)) }
+    ensures { Finds result (broken_number store.now) }
 {
-    if numbers_are_spent(store) {
-        Ok(())
-    } else {
-        Err(Flaw::Whole(1))
+    if store.next() == 0 {
+        return Err(Flaw::Whole(1));
     }
+    passed(1, misnumbered_object(store))
 }
 
-fn check_classes(store: &Store) -> Result<(), Flaw>
-    ensures met { OnOk result (classes_are_concrete store.now ≡ true) }
-    ensures broken { IfErr result (λ flaw. Denies flaw (classes_are_concrete store.now ≡ true)) }
+fn check_values(store: &Store) -> Result<(), Flaw>
+    ensures { Finds result (broken_values store.now) }
 {
-    match abstract_object(store) {
-        None => Ok(()),
-        Some(o) => Err(Flaw::At(2, o)),
-    }
+    passed(5, breaking_object(store, Condition::OfKinds))?;
+    passed(6, breaking_object(store, Condition::Differ))?;
+    passed(7, breaking_object(store, Condition::HeldBack))
 }
 
-fn check_listed(listed: bool) -> Result<(), Flaw>
-    ensures met { OnOk result (listed ≡ true) }
-    ensures broken { IfErr result (λ flaw. Denies flaw (listed ≡ true)) }
+// A condition is passed, unless an object shows that it is broken.
+fn passed(number: u8, object: Option<ObjectId>) -> Result<(), Flaw>
+    ensures { Finds result (shown_by number object) }
 {
-    if listed { Ok(()) } else { Err(Flaw::Whole(4)) }
-}
-
-// A condition that speaks of one slot at a time, with its number.
-fn check_slots(store: &Store, condition: Condition, number: u8) -> Result<(), Flaw>
-    ensures met { OnOk result (every_slot store.now (meets store.now condition) ≡ true) }
-    ensures broken { IfErr result (λ flaw. Denies flaw (every_slot store.now (meets store.now condition) ≡ true)) }
-{
-    match breaking_object(store, condition) {
+    match object {
         None => Ok(()),
         Some(o) => Err(Flaw::At(number, o)),
     }
 }
 
 fn check_containment(alloc: Global, store: &Store) -> Result<(), Flaw>
-    ensures met { OnOk result (MeetsContainment store.now) }
-    ensures broken { IfErr result (λ flaw. Denies flaw (MeetsContainment store.now)) }
+    ensures { Finds result (broken_containment store.now) }
 {
     let records = store.records();
-    let Some(holders) = links_to_objects(alloc, store, records)? else {
-        return Err(Flaw::Whole(8));
-    };
-    if !none_within_itself(alloc, store, records, holders.as_slice())? {
-        return Err(Flaw::Whole(9));
+    let links = containment_links(alloc, store.metamodel(), records)?;
+    let holders = holders(alloc, records, links.as_slice())?;
+    passed(8, first_marked(records, holders.twice.as_slice()))?;
+    check_holding(alloc, store, records, holders.first.as_slice())
+}
+
+fn check_holding(
+    alloc: Global,
+    store: &Store,
+    records: &[Record],
+    holders: &[Option<Link>],
+) -> Result<(), Flaw>
+    requires kept { Kept store.now records.now }
+    requires knows { KnowsHolders store.now records.now holders.now }
+    ensures { Finds result (broken_holding store.now) }
+{
+    passed(9, object_on_ring(alloc, store, records, holders)?)?;
+    if roots_are_uncontained(alloc, store, records, holders)? {
+        Ok(())
+    } else {
+        Err(Flaw::Whole(10))
     }
-    if !roots_are_uncontained(alloc, store, records, holders.as_slice())? {
-        return Err(Flaw::Whole(10));
-    }
-    Ok(())
 }

@@ -1,12 +1,13 @@
-ghost use Rattle.std.specs.Prelude.{◌≡◌, ◌<◌, ◌&&◌, length, true, is_none};
-ghost use Rattle.std.specs.List.{list_all, flat_map};
+ghost use Rattle.std.specs.Prelude.{◌≡◌, ◌<◌, ◌&&◌, ◌||◌, length, not, nat_eq, true};
+ghost use Rattle.std.specs.List.{list_all, list_any, flat_map};
 ghost use Rattle.wb_metamodel.specs.WellFormed.{KindIsKnown};
+ghost use Rattle.wb_model.specs.Broken.{least, breaks, is_crowded, is_misnumbered};
 ghost use Rattle.wb_model.specs.Contents.{members};
 ghost use Rattle.wb_model.specs.Conditions.{meets};
-ghost use Rattle.wb_model.specs.Records.{is_known_slot, slot_entry};
-ghost use Rattle.wb_model.specs.Valid.{every_slot, is_abstract, numbers_are_spent, classes_are_concrete, is_of_class, room, opposite, is_of_kind, is_integer, is_boolean, is_text, is_literal, is_instance, conforms_to, is_of_feature, differ, holds_back, is_held_back};
+ghost use Rattle.wb_model.specs.Records.{is_known_slot, slot_entries, slot_entry};
+ghost use Rattle.wb_model.specs.Valid.{is_abstract, is_of_class, room, opposite, is_of_kind, is_integer, is_boolean, is_text, is_literal, is_instance, conforms_to, is_of_feature, differ, holds_back, is_held_back};
 
-use crate::records::{Slot, has_object};
+use crate::records::{Record, Slot, has_object};
 use crate::scalars::Scalar;
 use crate::store::Store;
 use wb_metamodel::{ClassId, EnumId, FeatureId, Kind, Metamodel, ObjectId};
@@ -28,7 +29,7 @@ pub enum Condition {
 
 /// The least object that has a slot which does not meet the condition.
 pub fn breaking_object(store: &Store, condition: Condition) -> Option<ObjectId>
-    ensures { is_none result ≡ every_slot store.now (meets store.now condition) }
+    ensures { result ≡ least store.now (λ o c. breaks store.now condition o) }
 {
     for record in store.records() {
         if !slots_meet(store, condition, record.id, record.slots.as_slice()) {
@@ -36,6 +37,34 @@ pub fn breaking_object(store: &Store, condition: Condition) -> Option<ObjectId>
         }
     }
     None
+}
+
+/// The least object that is one of these, or has a slot with more values than there is room for.
+pub fn crowded_object(store: &Store, wrong: &[ObjectId]) -> Option<ObjectId>
+    ensures { result ≡ least store.now (λ o c. is_crowded store.now wrong.now o) }
+{
+    for record in store.records() {
+        if is_crowded(store, wrong, record) {
+            return Some(record.id);
+        }
+    }
+    None
+}
+
+fn is_crowded(store: &Store, wrong: &[ObjectId], record: &Record) -> bool
+    requires { list_all (is_known_slot store.now.metamodel) record.now.slots ≡ true }
+    ensures { result ≡ (list_any (λ p. nat_eq p record.now.id) wrong.now || not (list_all (λ e. meets store.now Condition.HasRoom e.0.0 e.0.1 (members e.1)) (slot_entries record.now))) }
+{
+    if wrong.contains(&record.id) {
+        true
+    } else {
+        !slots_meet(
+            store,
+            Condition::HasRoom,
+            record.id,
+            record.slots.as_slice(),
+        )
+    }
 }
 
 // Do all slots of an object that are not empty meet the condition?
@@ -213,25 +242,22 @@ fn holds_back(store: &Store, o: ObjectId, f: FeatureId, p: ObjectId) -> bool
     }
 }
 
-/// Is `next` from 1 to 4,294,967,295, and every object's number at least 1 and less than `next`?
-pub fn numbers_are_spent(store: &Store) -> bool
-    ensures { result ≡ numbers_are_spent store.now }
+/// The least object whose number is 0, or not below `next`.
+pub fn misnumbered_object(store: &Store) -> Option<ObjectId>
+    ensures { result ≡ least store.now (λ o c. is_misnumbered store.now o) }
 {
-    if store.next() == 0 {
-        return false;
-    }
     for record in store.records() {
         let number = record.id.0;
         if number == 0 || number >= store.next() {
-            return false;
+            return Some(record.id);
         }
     }
-    true
+    None
 }
 
 /// The least object whose class is abstract.
 pub fn abstract_object(store: &Store) -> Option<ObjectId>
-    ensures { is_none result ≡ classes_are_concrete store.now }
+    ensures { result ≡ least store.now (λ o c. is_abstract store.now.metamodel c) }
 {
     for record in store.records() {
         if store.metamodel().is_abstract(record.class) {

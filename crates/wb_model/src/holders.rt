@@ -1,6 +1,5 @@
-ghost use Rattle.std.specs.Prelude.{◌≡◌, ◌↔◌, true, IfOk, IsTrue, length, All, None};
-ghost use Rattle.std.specs.Bool.{OnTrue, OnFalse};
-ghost use Rattle.wb_model.specs.Links.{Notes, Clashes, Holding};
+ghost use Rattle.std.specs.Prelude.{◌≡◌, ◌↔◌, true, false, IfOk, IsTrue, length, All, None};
+ghost use Rattle.wb_model.specs.Links.{Notes, AreHolders};
 ghost use Rattle.wb_model.specs.Places.{rises};
 ghost use Rattle.wb_model.specs.Records.{id_of};
 
@@ -9,22 +8,27 @@ use crate::records::{Record, place_of_object};
 use std::alloc::{AllocError, Global};
 use wb_base::List;
 
-/// The link by which each object is held, or none where an object is held by two.
-pub fn holders(
-    alloc: Global,
-    records: &[Record],
-    links: &[Link],
-) -> Result<Option<List<Option<Link>>>, AllocError>
+/// By place of the objects: the first link by which each is held, and whether another link holds it too.
+#[derive(Drop)]
+pub struct Holding {
+    pub first: List<Option<Link>>,
+    pub twice: List<bool>,
+}
+
+/// The links by which objects are held.
+pub fn holders(alloc: Global, records: &[Record], links: &[Link]) -> Result<Holding, AllocError>
     requires { rises id_of records.now ≡ true }
-    ensures { IfOk result (Holding records.now links.now) }
+    ensures { IfOk result (λ holders. AreHolders records.now links.now holders.first holders.twice) }
 {
-    let mut holders = nothing_held(alloc, records)?;
+    let mut first = nothing_held(alloc, records)?;
+    let mut twice = none_twice(alloc, records)?;
     for link in links {
-        if !note(records, &mut holders, *link) {
-            return Ok(None);
-        }
+        note(records, &mut first, &mut twice, *link);
     }
-    Ok(Some(List::from_vec(holders)))
+    Ok(Holding {
+        first: List::from_vec(first),
+        twice: List::from_vec(twice),
+    })
 }
 
 fn nothing_held(alloc: Global, records: &[Record]) -> Result<Vec<Option<Link>>, AllocError>
@@ -38,21 +42,33 @@ fn nothing_held(alloc: Global, records: &[Record]) -> Result<Vec<Option<Link>>, 
     Ok(holders)
 }
 
-// Takes up a link, unless its object is held by another already.
-fn note(records: &[Record], holders: &mut Vec<Option<Link>>, link: Link) -> bool
+fn none_twice(alloc: Global, records: &[Record]) -> Result<Vec<bool>, AllocError>
+    ensures each { IfOk result (λ twice. length twice.items ≡ length records.now) }
+    ensures none { IfOk result (λ twice. All (λ t. t ≡ false) twice.items) }
+{
+    let mut twice = Vec::new(alloc);
+    for _record in records {
+        twice.push(false)?;
+    }
+    Ok(twice)
+}
+
+// Takes up a further link.
+fn note(records: &[Record], first: &mut Vec<Option<Link>>, twice: &mut Vec<bool>, link: Link)
     requires ordered { rises id_of records.now ≡ true }
-    requires each { length holders.old.items ≡ length records.now }
-    ensures noted { OnTrue result (Notes records.now link holders.old.items holders.new.items) }
-    ensures clash { OnFalse result (Clashes records.now link holders.old.items) }
+    requires each { length first.old.items ≡ length records.now }
+    requires each_twice { length twice.old.items ≡ length records.now }
+    ensures { Notes records.now link first.old.items twice.old.items first.new.items twice.new.items }
 {
     match place_of_object(records, link.object) {
-        None => true,
-        Some(place) => match holders[place] {
-            None => {
-                holders[place] = Some(link);
-                true
+        None => {}
+        Some(place) => match first[place] {
+            None => first[place] = Some(link),
+            Some(held) => {
+                if !is_same(held, link) {
+                    twice[place] = true;
+                }
             }
-            Some(held) => is_same(held, link),
         },
     }
 }

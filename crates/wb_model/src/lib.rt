@@ -5,20 +5,24 @@ mod arranged;
 mod building;
 mod change_list;
 mod checks;
-mod climbs;
 mod conditions;
 mod containment;
 mod edit_laws;
+mod copies;
+mod extent;
 mod flaws;
 mod holders;
-mod holding;
+mod inverse;
 mod links;
+mod marks;
 mod model;
 mod parts;
 mod records;
 mod refusals;
+mod rings;
 mod scalars;
 mod store;
+mod tree;
 mod uncontained;
 mod validity;
 
@@ -31,7 +35,7 @@ pub use edit_laws::{
     removed_objects_are_nowhere,
 };
 pub use model::{Model, empty};
-pub use refusals::ModelRefusal;
 pub use parts::{BuildRefusal, Part, SlotPart};
+pub use refusals::ModelRefusal;
 pub use scalars::{Cell, Place, Scalar};
 pub use validity::validity_is_decided;

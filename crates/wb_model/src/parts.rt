@@ -1,4 +1,7 @@
+ghost use Rattle.std.specs.Prelude.{◌≡◌};
+
 use crate::scalars::Scalar;
+use std::alloc::AllocError;
 use wb_base::List;
 use wb_metamodel::{ClassId, FeatureId, ObjectId};
 
@@ -25,4 +28,14 @@ pub enum BuildRefusal {
     /// A condition that a model has to meet, by its number, and an object that shows it.
     Broken(u8, Option<ObjectId>),
     NoMemory,
+}
+
+impl From<AllocError> for BuildRefusal {
+    ghost use Rattle.wb_model.specs.declared.parts.BuildRefusal.TheVariants.{NoMemory};
+
+    ghost from_gives = { λ _ e. e ≡ NoMemory };
+
+    fn from(_error: AllocError) -> BuildRefusal {
+        BuildRefusal::NoMemory
+    }
 }

@@ -4,12 +4,13 @@ ghost use Rattle.wb_model.specs.Contents.{kind, slot, empty_contents};
 ghost use Rattle.wb_model.specs.Cells.{holder};
 
 use crate::arranged::arranged_records;
+use crate::copies::{copy_objects, copy_records};
 use crate::parts::Part;
 use crate::records::{Record, find_object, holding_object, values_of};
 use crate::scalars::Scalar;
 use std::alloc::{AllocError, Global};
 use std::marker::Model;
-use wb_base::List;
+use wb_base::{Duplicate, List};
 use wb_metamodel::{ClassId, FeatureId, Metamodel, ObjectId};
 
 /// Objects with their slots, whether they make a valid model or not.
@@ -39,6 +40,9 @@ impl Model for Store {
 }
 
 impl Store {
+    ghost use Rattle.std.specs.Prelude.{List as Many};
+    ghost use Rattle.wb_model.specs.declared.records.Record.{Record as Kept};
+    ghost use Rattle.wb_model.specs.Links.{Kept as IsKept};
     ghost use Rattle.wb_model.specs.Records.{contents_of, IsPlain};
     ghost use Rattle.wb_model.specs.Parts.{AreParts, made_of};
 
@@ -93,6 +97,13 @@ impl Store {
         self.roots.as_slice()
     }
 
+    /// What is true of every store.
+    pub fn is_kept(&self)
+        ensures { (records : Many Kept) × IsKept self.now records }
+    {
+        let _ = &self.records;
+    }
+
     /// The objects, ascending by number.
     pub fn records(&self) -> &[Record]
         ensures shown { self.now ≡ contents_of self.now.metamodel self.now.next result.now self.now.roots }
@@ -134,5 +145,16 @@ impl Store {
         ensures { result ≡ holder self.now o }
     {
         holding_object(&self.metamodel, self.records.as_slice(), o)
+    }
+}
+
+impl Duplicate for Store {
+    fn copy(&self, alloc: Global) -> Result<Store, AllocError> {
+        Ok(Store {
+            metamodel: self.metamodel.copy(alloc)?,
+            next: self.next,
+            records: copy_records(alloc, &self.records)?,
+            roots: copy_objects(alloc, self.roots.as_slice())?,
+        })
     }
 }

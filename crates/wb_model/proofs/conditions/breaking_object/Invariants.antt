@@ -1,10 +1,9 @@
-use Rattle.std.proofs.Common.{◌≡◌, ℕ, drop}
-use Rattle.std.specs.List.{list_all, flat_map}
-use Rattle.wb_model.specs.Contents.{Filled, members}
-use Rattle.wb_model.specs.Conditions.{meets}
-use Rattle.wb_model.specs.Records.{slot_entries}
-use Rattle.wb_model.specs.Valid.{every_slot}
+use Rattle.std.proofs.Common.{◌≡◌, ℕ, drop, map}
+use Rattle.std.specs.Option.{option_map}
+use Rattle.std.specs.List.{find}
+use Rattle.wb_model.specs.Broken.{least, breaks}
+use Rattle.wb_model.specs.Records.{kind_entry}
 use Rattle.wb_model.proofs.conditions.breaking_object.Given as goal
 
 abbrev pub invariant-loop-record : goal.invariant-loop-record
-invariant-loop-record l = list_all (λ (e : (ℕ × ℕ) × Filled). meets l.store l.condition e.0.0 e.0.1 (members e.1)) (flat_map slot_entries (drop l.record-index l.record-items)) ≡ every_slot l.store (meets l.store l.condition)
+invariant-loop-record l = option_map (λ (e : ℕ × ℕ). e.0) (find (λ (e : ℕ × ℕ). breaks l.store l.condition e.0) (map kind_entry (drop l.record-index l.record-items))) ≡ least l.store (λ o c. breaks l.store l.condition o)

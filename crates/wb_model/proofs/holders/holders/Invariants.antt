@@ -3,4 +3,4 @@ use Rattle.wb_model.specs.Links.{AreHolders}
 use Rattle.wb_model.proofs.holders.holders.Given as goal
 
 abbrev pub invariant-loop-link : goal.invariant-loop-link
-invariant-loop-link l = AreHolders l.records (take l.link-index l.links) l.holders.items
+invariant-loop-link l = AreHolders l.records (take l.link-index l.links) l.first.items l.twice.items
