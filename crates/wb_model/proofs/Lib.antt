@@ -13,3 +13,5 @@ pub mod RootLemmas
 pub mod Steps
 pub mod ValidSlots
 pub mod ValidTest
+pub mod Placed
+pub mod SlotLemmas

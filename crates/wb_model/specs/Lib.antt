@@ -13,5 +13,6 @@ pub mod Records
 pub mod Roots
 pub mod ScalarLaws
 pub mod Scalars
+pub mod Slots
 pub mod Valid
 pub mod ValidTest

@@ -17,6 +17,7 @@ mod parts;
 mod records;
 mod refusals;
 mod scalars;
+mod slots;
 mod store;
 mod uncontained;
 mod validity;
