@@ -15,3 +15,5 @@ pub mod ValidSlots
 pub mod ValidTest
 pub mod Placed
 pub mod SlotLemmas
+pub mod RecordLemmas
+pub mod Relinks

@@ -10,7 +10,7 @@ use Rattle.wb_model.specs.declared.records.Record.{Record}
 use Rattle.wb_model.specs.declared.records.Slot.{Slot}
 use Rattle.wb_model.specs.Places.{rises, numbered, IsPlaceOf}
 use Rattle.wb_model.specs.Records.{id_of, feature_of, values_in, is_known_slot, is_known, kind_entry, IsPlain}
-use Rattle.wb_model.specs.Slots.{IsGapFor, SlotsChange, values_at, RecordsChange}
+use Rattle.wb_model.specs.Slots.{IsGapFor, SlotsChange}
 use Rattle.wb_model.proofs.Found.{numbered_read, numbered_none, is_itself}
 use Rattle.wb_model.proofs.Placed.{rises-set, numbered-set, all-set, rises-insert, numbered-insert, none-gap, all-insert}
 

@@ -6,6 +6,7 @@ pub mod Conditions
 pub mod Contents
 pub mod Edits
 pub mod Flaws
+pub mod LinkSteps
 pub mod Links
 pub mod Parts
 pub mod Places

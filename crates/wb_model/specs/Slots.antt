@@ -27,11 +27,11 @@ pub record SlotsChange (f : ℕ) (values : List Scalar) (old new : List Slot) : 
   pub at : (g : ℕ) → values_in g new ≡ (if nat_eq g f then values else values_in g old)
 
 -- the values of an object and a feature in a list of objects
-abbrev pub values_at : ℕ → ℕ → List Record → List Scalar
-values_at o f records = option_map_or (λ (r : Record). values_in f r.slots) (numbered id_of o records) []
+abbrev pub held_at : ℕ → ℕ → List Record → List Scalar
+held_at o f records = option_map_or (λ (r : Record). values_in f r.slots) (numbered id_of o records) []
 
 -- the objects have these values at an object and a feature, and are the same elsewhere
 pub record RecordsChange (o f : ℕ) (values : List Scalar) (old new : List Record) : Type 0 where
   pub kinds : map kind_entry new ≡ map kind_entry old
   pub plain : (metamodel : Metamodel) → f < length metamodel.features → IsPlain metamodel old → IsPlain metamodel new
-  pub at : (p g : ℕ) → values_at p g new ≡ (if nat_eq p o && nat_eq g f then values else values_at p g old)
+  pub at : (p g : ℕ) → held_at p g new ≡ (if nat_eq p o && nat_eq g f then values else held_at p g old)

@@ -18,6 +18,7 @@ mod records;
 mod refusals;
 mod scalars;
 mod slots;
+mod slots_of_objects;
 mod store;
 mod uncontained;
 mod validity;

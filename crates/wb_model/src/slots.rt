@@ -99,3 +99,12 @@ pub fn replace_values(
     slots[place].values = values;
     Ok(())
 }
+
+/// The list of one value.
+pub fn alone(alloc: Global, value: Scalar) -> Result<List<Scalar>, AllocError>
+    ensures { IfOk result (λ values. values ≡ value ∷ []) }
+{
+    let mut values = List::new(alloc);
+    values.push(value)?;
+    Ok(values)
+}
