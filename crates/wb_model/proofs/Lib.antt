@@ -17,6 +17,7 @@ pub mod Relinked
 pub mod RootLemmas
 pub mod Sound
 pub mod Steps
+pub mod Trees
 pub mod ValidSlots
 pub mod ValidTest
 pub mod Placed

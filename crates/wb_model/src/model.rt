@@ -1,12 +1,13 @@
 ghost use Rattle.std.specs.Prelude.{◌≡◌, ◌==◌, ◌<◌, length, IfOk, IfSome};
 ghost use Rattle.std.specs.FinMap.{len};
 ghost use Rattle.wb_model.specs.Contents.{kind, slot, empty_contents};
-ghost use Rattle.wb_model.specs.Cells.{holder};
+ghost use Rattle.wb_model.specs.Cells.{extent, holder, inverse, tree};
 ghost use Rattle.wb_model.specs.Valid.{IsValid};
 
 use crate::scalars::Scalar;
 use crate::store::Store;
 use std::alloc::{AllocError, Global};
+use wb_base::{Duplicate, List};
 use wb_metamodel::{ClassId, FeatureId, Metamodel, ObjectId};
 
 /// A valid model: objects of a metamodel's classes, with the values of their features.
@@ -106,5 +107,39 @@ impl Model {
         ensures { result ≡ holder self.now o }
     {
         self.store.holder(o)
+    }
+
+    /// What an object contains, directly or through others, each object before its own content.
+    pub fn tree(&self, alloc: Global, o: ObjectId) -> Result<List<ObjectId>, AllocError>
+        ensures { IfOk result (λ os. os ≡ tree self.now o) }
+    {
+        self.store.tree(alloc, o)
+    }
+
+    /// The objects and plain references that hold an object, ascending.
+    pub fn inverse(
+        &self,
+        alloc: Global,
+        o: ObjectId,
+    ) -> Result<List<(ObjectId, FeatureId)>, AllocError>
+        ensures { IfOk result (λ pairs. pairs ≡ inverse self.now o) }
+    {
+        self.store.inverse(alloc, o)
+    }
+
+    /// The live objects that conform to a class, ascending.
+    pub fn extent(&self, alloc: Global, c: ClassId) -> Result<List<ObjectId>, AllocError>
+        requires { c < length self.now.metamodel.classes }
+        ensures { IfOk result (λ os. os ≡ extent self.now c) }
+    {
+        self.store.extent(alloc, c)
+    }
+}
+
+impl Duplicate for Model {
+    fn copy(&self, alloc: Global) -> Result<Model, AllocError> {
+        Ok(Model {
+            store: self.store.copy(alloc)?,
+        })
     }
 }

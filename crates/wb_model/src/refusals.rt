@@ -1,7 +1,7 @@
-use std::alloc::{AllocError, AllocFailed};
-
 ghost use Rattle.std.specs.Prelude.{◌≡◌};
 ghost use Rattle.wb_model.specs.declared.refusals.ModelRefusal.TheVariants.{NoMemory};
+
+use std::alloc::{AllocError, AllocFailed};
 
 /// Why an edit is refused; the first that holds, in this order.
 #[derive(Clone, Copy, Debug, PartialEq, Eq)]

@@ -6,6 +6,7 @@ ghost use Rattle.wb_model.specs.Edits.{link};
 ghost use Rattle.wb_model.specs.LinkSteps.{with_link, with_only, without_link, without_slot};
 
 use crate::arranged::arranged_records;
+use crate::copies::{copy_objects, copy_records};
 use crate::parts::Part;
 use crate::records::{Record, find_object, holding_object, values_of};
 use crate::scalars::Scalar;
@@ -13,7 +14,7 @@ use crate::slots::alone;
 use crate::slots_of_objects::{drop_from, push_to, replace_at, take_from};
 use std::alloc::{AllocError, Global};
 use std::marker::Model;
-use wb_base::List;
+use wb_base::{Duplicate, List};
 use wb_metamodel::{ClassId, FeatureId, Metamodel, ObjectId};
 
 /// Objects with their slots, whether they make a valid model or not.
@@ -188,5 +189,16 @@ impl Store {
         ensures left { self.new ≡ without_slot o f self.old }
     {
         take_from(alloc, &mut self.records, o, f)
+    }
+}
+
+impl Duplicate for Store {
+    fn copy(&self, alloc: Global) -> Result<Store, AllocError> {
+        Ok(Store {
+            metamodel: self.metamodel.copy(alloc)?,
+            next: self.next,
+            records: copy_records(alloc, &self.records)?,
+            roots: copy_objects(alloc, self.roots.as_slice())?,
+        })
     }
 }
