@@ -14,6 +14,7 @@ use Rattle.wb_model.specs.ScalarLaws.{same_decides}
 use Rattle.wb_model.specs.Contents.{Contents, slot}
 use Rattle.wb_model.specs.Valid.{opposite, is_many, IsValid}
 use Rattle.wb_model.specs.Edits.{Link, link, relink, other_end, both_ends, change, is_at, same_link, gives_way, unlink, emptied}
+use Rattle.wb_model.specs.LinkSteps.{each_left}
 use Rattle.wb_model.proofs.Changed.{filter-same, both-same}
 use Rattle.wb_model.proofs.Ends.{Opposed, other_end-is, other_end-In, other_end-cases, In-other_end, In-both_ends, ends-this, ends-that, ends-cases, opposed-unique, opposed-back}
 use Rattle.wb_model.proofs.LinkLemmas.{any_found, to_false}
@@ -140,11 +141,6 @@ module _ (m : Contents) (well : WellFormed m.metamodel) where
   pub emptied-alone : (o f : ℕ) → opposite m.metamodel f ≡ None → emptied o f m ≡ relink (is_at o f) [] m
   emptied-alone o f none = relink-agree (λ k. list_any (is_at o f) (ends k)) (is_at o f) [] [] m (λ k i. at-none o f k none) (λ p g. refl)
 
--- links leave one by one
-abbrev pub each_left : List Link → Contents → Contents
-each_left [] m = m
-each_left (l ∷ ls) m = each_left ls (relink (same_link l) [] m)
-
 abbrev pub among : List Link → Link → Bool
 among ls k = list_any (λ l. same_link l k) ls
 
@@ -202,7 +198,7 @@ module _ (m : Contents) (well : WellFormed m.metamodel) (s : Sound m) where
 abbrev pub cleared : Link → Contents → Contents
 cleared l m = cond (is_many m.metamodel l.feature) m (emptied l.object l.feature m)
 
-clears : Metamodel → Link → Link → Bool
+unfoldable pub clears : Metamodel → Link → Link → Bool
 clears mm l j = not (is_many mm l.feature) && list_any (is_at l.object l.feature) (both_ends mm j)
 
 cleared-relink : (l : Link) (m : Contents) → cleared l m ≡ relink (clears m.metamodel l) [] m
@@ -255,7 +251,7 @@ module _ (m : Contents) (l : Link) where
       ∙ sym (relink-relink (clears m.metamodel l) (λ j. false) [] (l ∷ []) m)
       ∙ ap (relink (λ j. false) (l ∷ [])) (sym (cleared-relink l m))
 
-  way-both : (k j : Link) → Opposed m.metamodel l k → list_any (gives_way m.metamodel l) (both_ends m.metamodel j) ≡ (((clears m.metamodel l j || clears m.metamodel k j) || false) || false)
+  pub way-both : (k j : Link) → Opposed m.metamodel l k → list_any (gives_way m.metamodel l) (both_ends m.metamodel j) ≡ (((clears m.metamodel l j || clears m.metamodel k j) || false) || false)
   way-both k j o =
       let mm = m.metamodel in
       let ends = clears mm l j || clears mm k j in

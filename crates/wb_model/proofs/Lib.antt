@@ -24,3 +24,5 @@ pub mod Placed
 pub mod SlotLemmas
 pub mod RecordLemmas
 pub mod Relinks
+pub mod OtherEnds
+pub mod Comings

@@ -10,6 +10,8 @@ mod conditions;
 mod containment;
 mod copies;
 mod extent;
+mod edits_checks;
+mod edits_links;
 mod flaws;
 mod holders;
 mod holding;
