@@ -21,7 +21,7 @@ use Rattle.wb_model.proofs.EditSteps.{relink-relink, relink-agree, relink-none, 
 use Rattle.wb_model.proofs.LinkLemmas.{any_found, to_false}
 use Rattle.wb_model.proofs.Members.{In, any_In}
 use Rattle.wb_model.proofs.Members.In.{here, there}
-use Rattle.wb_model.proofs.Relinked.{values_at, is_at-link, is_at-itself}
+use Rattle.wb_model.proofs.Relinked.{values_at, is_at-link, is_at-itself, kind-relink}
 use Rattle.wb_model.proofs.Sound.{Stands, Sound, sound-from, absent, stands-In, In-stands}
 
 -- ---- what a step leaves as it is
@@ -239,3 +239,33 @@ module _ (m : Contents) (well : WellFormed m.metamodel) (sound : Sound m) where
       (λ j st. way-both m l k j opposed ∙ sym (or_none _) ∙ sym (or_none _) ∙ (λ i. gives_is o f g op j st (Object p) i || gives_is p g f back j st (Object o) i))
       (λ j i. λ n. keep_gives l (absent m l fresh) o f j i n || keep_gives l (absent m l fresh) p g j i n)
       ∙ link_up_fresh m l fresh
+
+module _ (m u v w : Contents) (o f p g : ℕ) (first second : Option ℕ) (one : first ≡ gives_place m o f) (two : second ≡ gives_place m p g) where
+  -- the steps as the code takes them, each on what the one before has left
+  pub both_steps : u ≡ with_ends (link o f (Object p)) m → v ≡ relink (is_given u.metamodel o f first) [] u → w ≡ relink (is_given v.metamodel p g second) [] v
+      → w ≡ relink (is_given m.metamodel p g (gives_place m p g)) [] (relink (is_given m.metamodel o f (gives_place m o f)) [] (with_ends (link o f (Object p)) m))
+  both_steps a b c =
+      let same : u.metamodel ≡ m.metamodel = ap (λ (m : Contents). m.metamodel) a ∙ metamodel-relink _ _ m in
+      let after : v ≡ relink (is_given m.metamodel o f (gives_place m o f)) [] (with_ends (link o f (Object p)) m) = b ∙ (λ i. relink (is_given (same i) o f (one i)) [] (a i)) in
+      let again : v.metamodel ≡ m.metamodel = ap (λ (m : Contents). m.metamodel) b ∙ metamodel-relink _ _ u ∙ same in
+      c ∙ (λ i. relink (is_given (again i) p g (two i)) [] (after i))
+
+pub known_after : (m n : Contents) (f : ℕ) → n.metamodel ≡ m.metamodel → f < length m.metamodel.features → f < length n.metamodel.features
+known_after m n f same h = subst (λ (metamodel : Metamodel). f < length metamodel.features) (sym same) h
+
+pub known_in : (a b : Metamodel) (f : ℕ) → a ≡ b → f < length a.features → f < length b.features
+known_in a b f same h = subst (λ (metamodel : Metamodel). f < length metamodel.features) same h
+
+object_is : (p q : ℕ) → Object p ≡ Object q → p ≡ q
+object_is p q e = cc
+
+-- the object at the other end of a link that has come is live
+pub live_end : (m n : Contents) (o f p : ℕ) (k : Link) → n ≡ with_link (link o f (Object p)) m → other_end m.metamodel (link o f (Object p)) ≡ k ∷ [] → IsSome (kind m p) → IsSome (kind n k.object)
+live_end m n o f p k e other live =
+    let l : Link = link o f (Object p) in
+    let to = (other_end-In m.metamodel l k (subst (In k) (sym other) here)).to in
+    subst (λ (m : Contents). IsSome (kind m k.object)) (sym e)
+    (subst IsSome (sym (kind-relink (λ j. false) (l ∷ []) m k.object)) (subst (λ p. IsSome (kind m p)) (object_is p k.object to) live))
+
+pub end_is : (m : Contents) (o f p : ℕ) (k : Link) → other_end m.metamodel (link o f (Object p)) ≡ k ∷ [] → k.object ≡ p
+end_is m o f p k other = sym (object_is p k.object (other_end-In m.metamodel (link o f (Object p)) k (subst (In k) (sym other) here)).to)

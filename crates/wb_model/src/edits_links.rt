@@ -73,7 +73,7 @@ impl Store {
         let other = other_end(self.metamodel(), o, f, &Scalar::Object(p));
         self.put_last(alloc, o, f, Scalar::Object(p))?;
         match other {
-            Some((q, g)) => self.put_back(alloc, o, f, q, g),
+            Some(end) => self.put_back(alloc, o, f, end.0, end.1),
             None => Ok(()),
         }
     }
@@ -160,7 +160,7 @@ impl Store {
     {
         self.metamodel().well_formed();
         match other_end(self.metamodel(), o, f, &value) {
-            Some((p, g)) => self.link_both(alloc, o, f, p, g),
+            Some(end) => self.link_both(alloc, o, f, end.0, end.1),
             None => self.link_alone(alloc, o, f, value),
         }
     }
