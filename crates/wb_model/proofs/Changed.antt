@@ -1,28 +1,27 @@
 -- A change of links keeps what is true of each object and each slot.
-use Rattle.std.proofs.Common.{◌≡◌, ℕ, ◌+◌, ◌<◌, ◌≤◌, Bool, true, false, not, ◌&&◌, List, [], ◌∷◌, ◌++◌, length, Option, Some, None, refl, sym, ap, subst, ◌∙◌, cond, eqb, arith, ◌⊎◌, inl, inr, ⊎_elim, append-nil}
-use Rattle.std.proofs.lemmas.Bool.{and_parts, and_from, false≢true, not-true, not_from_false, false_from_ne_true}
+use Rattle.std.proofs.Common.{◌≡◌, ℕ, ◌<◌, ◌≤◌, Bool, true, false, not, List, [], ◌∷◌, ◌++◌, length, refl, sym, ap, subst, ◌∙◌, cond, eqb, arith, ◌⊎◌, inl, inr, ⊎_elim, append-nil}
+use Rattle.std.proofs.lemmas.Bool.{and_parts, and_from, false≢true, not-true, not_from_false}
 use Rattle.std.proofs.lemmas.List.{length_push}
 use Rattle.std.specs.Prelude.{filter, IsSome}
 use Rattle.std.specs.Option.{option_map_or}
 use Rattle.std.specs.List.{list_any, flat_map}
 use Rattle.wb_metamodel.specs.declared.features.Feature.{Feature}
-use Rattle.wb_metamodel.specs.declared.features.Kind.{Kind}
-use Rattle.wb_metamodel.specs.declared.features.Kind.TheVariants.{Reference}
-use Rattle.wb_metamodel.specs.Metamodel.{Metamodel, conforms, feature_at}
+use Rattle.wb_metamodel.specs.Metamodel.{Metamodel, conforms}
 use Rattle.wb_metamodel.specs.WellFormed.{WellFormed}
 use Rattle.wb_model.specs.declared.scalars.Scalar.{Scalar}
 use Rattle.wb_model.specs.declared.scalars.Scalar.TheVariants.{Object}
 use Rattle.wb_model.specs.Scalars.{same}
 use Rattle.wb_model.specs.ScalarLaws.{same_decides}
-use Rattle.wb_model.specs.Contents.{Contents, kind, slot, is_containment, contains}
+use Rattle.wb_model.specs.Contents.{Contents, kind, slot, contains}
 use Rattle.wb_model.specs.Cells.{is_plain}
 use Rattle.wb_model.specs.Edits.{Link, link, relink, other_end, both_ends, change, is_at}
-use Rattle.wb_model.specs.Valid.{has_feature, is_of_class, room, conforms_to, is_of_kind, is_of_feature, differ, opposite, AreContainedOnce, Within, NoneIsWithinItself, is_root, once, RootsAreUncontained}
+use Rattle.wb_model.specs.Valid.{has_feature, is_of_class, room, conforms_to, is_of_kind, is_of_feature, differ, Within, is_root, once}
 use Rattle.wb_model.specs.Valid.Within.{directly, through}
-use Rattle.wb_model.proofs.Ends.{Opposites, opposites, opposite-apart, opposite-back, plain-parts, plain-other, Opposed, other_end-In, other_end-is, other_end-cases, In-other_end, In-both_ends, ends-this, ends-that, ends-cases, opposed-unique, opposed-back, ends-mirrored}
+use Rattle.wb_model.proofs.Ends.{opposites, opposite-apart, plain-parts, plain-other, Opposed, other_end-cases, In-other_end, In-both_ends, ends-cases, opposed-unique, opposed-back, ends-mirrored}
 use Rattle.wb_model.proofs.FeatureOwners.{In-cons, filter-In, In-filter, feature-owner, owner-feature}
 use Rattle.wb_model.proofs.LinkLemmas.{any_found, to_false}
-use Rattle.wb_model.proofs.Members.{In, any_In, In-append_left, In-append_right, In-append_cases, In-flat_map, flat_map-In}
+use Rattle.wb_model.proofs.Live.{kind-at}
+use Rattle.wb_model.proofs.Members.{In, any_In, In-append_left, In-append_right, In-append_cases, flat_map-In}
 use Rattle.wb_model.proofs.Members.In.{here, there}
 use Rattle.wb_model.proofs.Relinked.{values_at, is_at-link, is_at-itself, slot-relink}
 use Rattle.wb_model.proofs.Sound.{Stands, contains-parts, contains-from, Sound, Housed}
@@ -87,7 +86,7 @@ values_at-In o f (l ∷ ls) v m =
       | false ↦ λ t m. there (values_at-In o f ls v m)
     ] refl m
 
-In-values_at : (ls : List Link) (l : Link) → In l ls → In l.value (values_at l.object l.feature ls)
+pub In-values_at : (ls : List Link) (l : Link) → In l ls → In l.value (values_at l.object l.feature ls)
 In-values_at [] l m = elim m [ ]
 In-values_at (k ∷ ls) l here = subst (λ b. In l.value (cond b (l.value ∷ values_at l.object l.feature ls) (values_at l.object l.feature ls))) (sym (is_at-itself l.object l.feature l.value)) here
 In-values_at (k ∷ ls) l (there m) =
@@ -183,13 +182,6 @@ module _ (leaves : Link → Bool) (comes : List Link) (m : Contents) (s : Sound 
 abbrev pub IsKnown : Contents → Link → Type 0
 IsKnown m l = (is_of_class m l.object l.feature ≡ true) × (is_of_feature m l.feature l.value ≡ true)
 
-kind-at : (m : Contents) (o : ℕ) (p : ℕ → Bool) → option_map_or p (kind m o) false ≡ true → (c : ℕ) × (kind m o ≡ Some c) × (p c ≡ true)
-kind-at m o p h =
-    elim (kind m o) as (λ r. kind m o ≡ r → option_map_or p r false ≡ true → (c : ℕ) × (kind m o ≡ Some c) × (p c ≡ true)) [
-      | None ↦ λ e h. absurd (false≢true h)
-      | Some c ↦ λ e h. (c, e, h)
-    ] refl h
-
 -- with a link its other end is of a class and a kind
 pub other-known : (m : Contents) → WellFormed m.metamodel → (l k : Link) → IsKnown m l → Opposed m.metamodel l k → IsKnown m k
 other-known m well l k known o =
@@ -241,7 +233,7 @@ module _ (mm : Metamodel) (well : WellFormed mm) (l : Link) where
             ] refl
       ] refl
 
-  alone-ends : (o f : ℕ) → IsAlone o f ends
+  pub alone-ends : (o f : ℕ) → IsAlone o f ends
   alone-ends o f =
       subst (IsAlone o f) (sym (append-nil (both_ends mm l)))
       (⊎_elim

@@ -1,6 +1,6 @@
 -- Changes of both ends as steps, each of which changes one slot.
-use Rattle.std.proofs.Common.{◌≡◌, ℕ, Bool, true, false, not, ◌&&◌, ◌||◌, List, [], ◌∷◌, ◌++◌, Option, Some, None, refl, sym, ap, subst, ◌∙◌, cond, append_assoc, append-nil, ◌⊎◌, inl, inr, ⊎_elim}
-use Rattle.std.proofs.lemmas.Bool.{and_parts, and_from, false≢true, or_left, or_right, or_cases, not_from_false, cases_Bool}
+use Rattle.std.proofs.Common.{◌≡◌, ℕ, Bool, true, false, not, ◌&&◌, ◌||◌, List, [], ◌∷◌, ◌++◌, Some, None, refl, sym, ap, subst, ◌∙◌, cond, append_assoc, append-nil, ◌⊎◌, ⊎_elim}
+use Rattle.std.proofs.lemmas.Bool.{and_parts, and_from, or_left, or_right, or_cases}
 use Rattle.std.proofs.lemmas.Option.{none-some}
 use Rattle.std.proofs.lemmas.List.Elements.{filter-append}
 use Rattle.std.specs.Prelude.{filter}
@@ -8,20 +8,19 @@ use Rattle.std.specs.List.{list_any, flat_map}
 use Rattle.wb_metamodel.specs.Metamodel.{Metamodel}
 use Rattle.wb_metamodel.specs.WellFormed.{WellFormed}
 use Rattle.wb_model.specs.declared.scalars.Scalar.{Scalar}
-use Rattle.wb_model.specs.declared.scalars.Scalar.TheVariants.{Object}
 use Rattle.wb_model.specs.Scalars.{same}
 use Rattle.wb_model.specs.ScalarLaws.{same_decides}
 use Rattle.wb_model.specs.Contents.{Contents, slot}
-use Rattle.wb_model.specs.Valid.{opposite, is_many, IsValid}
+use Rattle.wb_model.specs.Valid.{opposite, is_many}
 use Rattle.wb_model.specs.Edits.{Link, link, relink, other_end, both_ends, change, is_at, same_link, gives_way, unlink, emptied}
 use Rattle.wb_model.specs.LinkSteps.{each_left}
 use Rattle.wb_model.proofs.Changed.{filter-same, both-same}
-use Rattle.wb_model.proofs.Ends.{Opposed, other_end-is, other_end-In, other_end-cases, In-other_end, In-both_ends, ends-this, ends-that, ends-cases, opposed-unique, opposed-back}
-use Rattle.wb_model.proofs.LinkLemmas.{any_found, to_false}
+use Rattle.wb_model.proofs.Ends.{Opposed, other_end-is, other_end-In, In-other_end, In-both_ends, ends-this, ends-that, ends-cases, opposed-unique, opposed-back}
+use Rattle.wb_model.proofs.LinkLemmas.{any_found}
 use Rattle.wb_model.proofs.Members.{In, any_In, In-flat_map, flat_map-In}
 use Rattle.wb_model.proofs.Members.In.{here, there}
 use Rattle.wb_model.proofs.Relinked.{values_at, values_at-append, values_at-filter, is_at-link, is_at-itself, slot-relink, same_contents}
-use Rattle.wb_model.proofs.Sound.{Stands, Sound, sound-from}
+use Rattle.wb_model.proofs.Sound.{Stands, Sound}
 
 -- ---- relinks of relinks
 
@@ -61,7 +60,7 @@ relink-agree a b ls ks m leave come =
     ∙ (λ i. filter-same (λ v. not (a (link o f v))) (λ v. not (b (link o f v))) (slot m o f) (λ v j. ap not (leave (link o f v) j)) i ++ come o f i)
     ∙ sym (slot-relink b ks m o f))
 
-filter-all : (vs : List Scalar) → filter (λ v. true) vs ≡ vs
+pub filter-all : (vs : List Scalar) → filter (λ v. true) vs ≡ vs
 filter-all [] = refl
 filter-all (v ∷ vs) = ap (λ ws. v ∷ ws) (filter-all vs)
 
@@ -144,16 +143,16 @@ module _ (m : Contents) (well : WellFormed m.metamodel) where
 abbrev pub among : List Link → Link → Bool
 among ls k = list_any (λ l. same_link l k) ls
 
+or-false : (b : Bool) → (b || false) ≡ b
+or-false true = refl
+or-false false = refl
+
 or-assoc : (a b c : Bool) → ((a || b) || c) ≡ (a || (b || c))
 or-assoc true b c = refl
 or-assoc false b c = refl
 
 pub each_left-relink : (ls : List Link) (leaves : Link → Bool) (m : Contents) → each_left ls (relink leaves [] m) ≡ relink (λ k. leaves k || among ls k) [] m
-each_left-relink [] leaves m = relink-agree leaves (λ k. leaves k || false) [] [] m (λ k i. or-false (leaves k)) (λ o f. refl)
-  where
-    or-false : (b : Bool) → b ≡ (b || false)
-    or-false true = refl
-    or-false false = refl
+each_left-relink [] leaves m = relink-agree leaves (λ k. leaves k || false) [] [] m (λ k i. sym (or-false (leaves k))) (λ o f. refl)
 each_left-relink (l ∷ ls) leaves m =
     ap (each_left ls) (relink-relink leaves (same_link l) [] [] m)
     ∙ each_left-relink ls (λ k. leaves k || same_link l k) m
@@ -210,9 +209,9 @@ cleared-relink l m =
     ]
 
 module _ (mm : Metamodel) (l j : Link) where
-  gives-cleared : (k : Link) → list_any (gives_way mm l) (both_ends mm j) ≡ true → (e : Link) × ((l ≡ e) ⊎ Opposed mm l e) × (clears mm e j ≡ true)
+  gives-cleared : list_any (gives_way mm l) (both_ends mm j) ≡ true → (e : Link) × ((l ≡ e) ⊎ Opposed mm l e) × (clears mm e j ≡ true)
   unfolding clears
-  gives-cleared k h =
+  gives-cleared h =
       let r = any_found (gives_way mm l) (both_ends mm j) h in
       let e = any_found (λ (e : Link). not (is_many mm e.feature) && is_at e.object e.feature r.0) (both_ends mm l) r.2 in
       let both = and_parts (not (is_many mm e.0.feature)) (is_at e.0.object e.0.feature r.0) e.2 in
@@ -225,16 +224,12 @@ module _ (mm : Metamodel) (l j : Link) where
       let r = any_found (is_at e.object e.feature) (both_ends mm j) both.1 in
       any_In (gives_way mm l) (both_ends mm j) r.0 r.1 (any_In (λ (e : Link). not (is_many mm e.feature) && is_at e.object e.feature r.0) (both_ends mm l) e i (and_from _ _ both.0 r.2))
 
-or-false : (b : Bool) → (b || false) ≡ b
-or-false true = refl
-or-false false = refl
-
 module _ (m : Contents) (l : Link) where
   way-alone : (j : Link) → other_end m.metamodel l ≡ [] → list_any (gives_way m.metamodel l) (both_ends m.metamodel j) ≡ (clears m.metamodel l j || false)
   way-alone j alone =
       both-same _ _
       (λ h.
-      let e = gives-cleared m.metamodel l j j h in
+      let e = gives-cleared m.metamodel l j h in
       or_left _ _ (⊎_elim
       (λ s. subst (λ z. clears m.metamodel z j ≡ true) (sym s) e.2)
       (λ o. let none : In e.0 [] = subst (In e.0) alone (In-other_end m.metamodel l e.0 o) in elim none [ ])
@@ -257,7 +252,7 @@ module _ (m : Contents) (l : Link) where
       let ends = clears mm l j || clears mm k j in
       both-same _ _
       (λ h.
-      let e = gives-cleared mm l j j h in
+      let e = gives-cleared mm l j h in
       or_left _ _ (or_left _ _ (⊎_elim
       (λ s. or_left _ _ (subst (λ z. clears mm z j ≡ true) (sym s) e.2))
       (λ q. or_right (clears mm l j) _ (subst (λ z. clears mm z j ≡ true) (opposed-unique mm l e.0 k q o) e.2))
@@ -286,22 +281,18 @@ module _ (m : Contents) (l : Link) where
       ∙ ap (λ n. relink none (k ∷ []) (relink none (l ∷ []) n)) (sym (cleared-relink k (relink first [] m)))
       ∙ ap (λ n. relink none (k ∷ []) (relink none (l ∷ []) (cleared k n))) (sym (cleared-relink l m))
 
+pub none-any : (ls : List Link) → list_any (λ k. false) ls ≡ false
+none-any [] = refl
+none-any (l ∷ ls) = none-any ls
+
 -- a link comes to a slot that has room, and its other end
 pub come-alone : (m : Contents) (l : Link) → other_end m.metamodel l ≡ [] → change (λ j. false) (l ∷ []) m ≡ relink (λ j. false) (l ∷ []) m
 come-alone m l alone =
     relink-agree (λ j. list_any (λ k. false) (both_ends m.metamodel j)) (λ j. false) (flat_map (both_ends m.metamodel) (l ∷ [])) (l ∷ []) m
     (λ j i. none-any (both_ends m.metamodel j)) (λ o f. ap (λ ks. values_at o f (l ∷ (ks ++ []))) alone)
-  where
-    none-any : (ls : List Link) → list_any (λ k. false) ls ≡ false
-    none-any [] = refl
-    none-any (l ∷ ls) = none-any ls
 
 pub come-both : (m : Contents) (l k : Link) → Opposed m.metamodel l k → change (λ j. false) (l ∷ []) m ≡ relink (λ j. false) (k ∷ []) (relink (λ j. false) (l ∷ []) m)
 come-both m l k o =
     relink-agree (λ j. list_any (λ k. false) (both_ends m.metamodel j)) (λ j. false || false) (flat_map (both_ends m.metamodel) (l ∷ [])) (l ∷ k ∷ []) m
     (λ j i. none-any (both_ends m.metamodel j)) (λ p g. ap (λ ks. values_at p g (l ∷ (ks ++ []))) (other_end-is m.metamodel l k o))
     ∙ sym (relink-relink (λ j. false) (λ j. false) (l ∷ []) (k ∷ []) m)
-  where
-    none-any : (ls : List Link) → list_any (λ k. false) ls ≡ false
-    none-any [] = refl
-    none-any (l ∷ ls) = none-any ls

@@ -1,16 +1,15 @@
 -- Edits of plain features keep a model valid.
-use Rattle.std.proofs.Common.{◌≡◌, ℕ, ◌<◌, ◌≤◌, Bool, true, false, not, ◌&&◌, List, [], ◌∷◌, ◌++◌, length, Option, Some, None, refl, sym, ap, subst, ◌∙◌, cond, leb, arith, ◌⊎◌, inl, inr, ⊎_elim}
-use Rattle.std.proofs.lemmas.Bool.{and_parts, false≢true, not-false, not-true, not_from_true, not_from_false, leb-false, cases_Bool, and_cases}
+use Rattle.std.proofs.Common.{◌≡◌, ℕ, ◌<◌, Bool, true, false, not, ◌&&◌, List, [], ◌∷◌, length, Option, Some, None, refl, sym, ap, subst, ◌∙◌, cond, arith, ◌⊎◌, inl, ⊎_elim}
+use Rattle.std.proofs.lemmas.Bool.{and_parts, false≢true, not-false, not_from_true, not_from_false, leb-false, cases_Bool}
 use Rattle.std.proofs.lemmas.Option.{none-some}
-use Rattle.std.specs.Prelude.{filter, Result, Ok, Err}
-use Rattle.std.specs.Result.{result_ok}
+use Rattle.std.specs.Prelude.{Ok}
 use Rattle.std.specs.List.{list_any, flat_map}
 use Rattle.wb_metamodel.specs.Metamodel.{Metamodel}
 use Rattle.wb_metamodel.specs.WellFormed.{WellFormed}
 use Rattle.wb_model.specs.declared.scalars.Scalar.{Scalar}
 use Rattle.wb_model.specs.declared.refusals.ModelRefusal.{ModelRefusal}
 use Rattle.wb_model.specs.declared.refusals.ModelRefusal.TheVariants.{UnknownObject, KindMismatch, UpperBound}
-use Rattle.wb_model.specs.Contents.{Contents, kind, slot, is_containment, contains}
+use Rattle.wb_model.specs.Contents.{Contents, slot}
 use Rattle.wb_model.specs.Cells.{is_plain}
 use Rattle.wb_model.specs.Valid.{is_many, room, is_of_class, is_of_feature, IsValid}
 use Rattle.wb_model.specs.Edits.{Link, link, relink, both_ends, change, is_at, same_link, stands, gives_way, link_up, unlink, emptied, first_refusal, unless, is_live, is_known_value, is_full, is_plain_link, is_plain_feature, finds_no_room, refusal_of_link, refusal_of_take, refusal_of_unset, set, add, take_out, unset}
@@ -20,7 +19,7 @@ use Rattle.wb_model.proofs.LinkLemmas.{any_found, to_false}
 use Rattle.wb_model.proofs.Members.{In, any_In}
 use Rattle.wb_model.proofs.Members.In.{here, there}
 use Rattle.wb_model.proofs.Relinked.{is_at-link, is_at-itself, kind-relink}
-use Rattle.wb_model.proofs.Sound.{Stands, absent, Sound, Housed, sound-from, housed-from, valid-from}
+use Rattle.wb_model.proofs.Sound.{absent, Sound, Housed, sound-from, housed-from, valid-from}
 
 -- ---- accepted edits
 
@@ -70,15 +69,15 @@ link-known m l h = let both = link-parts m l h in ((and_parts (is_of_class m l.o
 
 -- ---- changes of plain features
 
-sound : (m : Contents) → IsValid m → Sound m
+pub sound : (m : Contents) → IsValid m → Sound m
 unfolding IsValid
 sound m v = sound-from m v
 
-housed : (m : Contents) → IsValid m → Housed m
+pub housed : (m : Contents) → IsValid m → Housed m
 unfolding IsValid
 housed m v = housed-from m v
 
-valid : (m : Contents) → Sound m → Housed m → IsValid m
+pub valid : (m : Contents) → Sound m → Housed m → IsValid m
 unfolding IsValid
 valid m s h = valid-from m s h
 
@@ -126,10 +125,10 @@ kept_unset m n o f well valid h =
 
 -- ---- set and add
 
-one-space : (metamodel : Metamodel) (f : ℕ) → 0 < room metamodel f
+pub one-space : (metamodel : Metamodel) (f : ℕ) → 0 < room metamodel f
 one-space metamodel f = elim (is_many metamodel f) as (λ b. 0 < cond b 20000 1) [ true ↦ omega arith | false ↦ omega arith ]
 
-and-true : (a b : Bool) → a ≡ true → (a && b) ≡ false → b ≡ false
+pub and-true : (a b : Bool) → a ≡ true → (a && b) ≡ false → b ≡ false
 and-true true b e h = h
 and-true false b e h = absurd (false≢true e)
 
@@ -146,12 +145,11 @@ module _ (m : Contents) (well : WellFormed m.metamodel) (v : IsValid m) (l : Lin
       subst (λ f. is_plain m.metamodel f ≡ true) (at-feature r.0.object r.0.feature k (and_parts _ _ r.2).1)
       (ends-plain plain r.0 (In-both_ends m.metamodel l r.0 r.1))
 
-  way : Link → Bool
+  abbrev pub way : Link → Bool
   way k = list_any (gives_way m.metamodel l) (both_ends m.metamodel k)
 
   -- all values of a slot of one value give way
-  way-all : (k : Link) → In k (both_ends m.metamodel l) → is_many m.metamodel k.feature ≡ false → stay_at way m k.object k.feature ≡ []
-  unfolding way
+  pub way-all : (k : Link) → In k (both_ends m.metamodel l) → is_many m.metamodel k.feature ≡ false → stay_at way m k.object k.feature ≡ []
   way-all k i one =
       filter-none (λ v. not (way (link k.object k.feature v))) (slot m k.object k.feature)
       (λ v j.
@@ -174,7 +172,6 @@ module _ (m : Contents) (well : WellFormed m.metamodel) (v : IsValid m) (l : Lin
       (cases_Bool (is_many m.metamodel k.feature))
 
   linked : IsKnown m l → is_plain m.metamodel l.feature ≡ true → stands m l ≡ false → finds_no_room m l ≡ false → IsValid (change (gives_way m.metamodel l) (l ∷ []) m)
-  unfolding way
   linked known plain new found =
       valid _
       (sound-relink way (flat_map (both_ends m.metamodel) (l ∷ [])) m (sound m v)

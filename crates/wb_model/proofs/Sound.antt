@@ -1,10 +1,9 @@
 -- What is true of each object and each slot of a valid model, said of links.
-use Rattle.std.proofs.Common.{◌≡◌, ℕ, ◌^◌, ◌≤◌, Bool, true, false, not, ◌&&◌, List, [], ◌∷◌, length, Option, Some, None, refl, sym, ap, subst, ◌∙◌, cond, ltb, leb, eqb, arith, Ordering, Less, T}
+use Rattle.std.proofs.Common.{◌≡◌, ℕ, ◌^◌, ◌≤◌, Bool, true, false, not, ◌&&◌, List, [], ◌∷◌, length, Some, None, refl, sym, ap, subst, ◌∙◌, cond, ltb, leb, arith, Ordering, Less, T}
 use Rattle.std.proofs.lemmas.Bool.{and_parts, and_from, false≢true, leb-true, le-leb}
 use Rattle.std.proofs.lemmas.Cmp.{nat_cmp_total, tied_itself}
-use Rattle.std.proofs.lemmas.Option.{none-some, same_Some}
 use Rattle.std.specs.Cmp.{IsTotalOrder}
-use Rattle.std.specs.Ordering.{nat_cmp, eq_by_cmp, is_lt, is_eq, ordering_reverse}
+use Rattle.std.specs.Ordering.{eq_by_cmp, is_lt, is_eq, ordering_reverse}
 use Rattle.std.specs.Option.{option_map_or}
 use Rattle.std.specs.List.{list_all}
 use Rattle.std.specs.FinMap.{FinMap, find, is_sorted, IsAntisymmetric, entries, entries_sorted, get, get-entries, len, nat_cmp-IsAntisymmetric}
@@ -13,9 +12,9 @@ use Rattle.wb_model.specs.declared.scalars.Scalar.{Scalar}
 use Rattle.wb_model.specs.declared.scalars.Scalar.TheVariants.{Int, Bool as Boolean, Text, Literal, Object}
 use Rattle.wb_model.specs.Scalars.{same}
 use Rattle.wb_model.specs.ScalarLaws.{same_decides}
-use Rattle.wb_model.specs.Contents.{Contents, Filled, members, slot_cmp, kind, slot, has_object, is_containment, contains}
-use Rattle.wb_model.specs.Edits.{Link, link, other_end, stands}
-use Rattle.wb_model.specs.Valid.{every_object, every_slot, numbers_are_spent, is_abstract, classes_are_concrete, is_of_class, slots_are_of_classes, room, slots_have_room, is_of_feature, values_are_of_kinds, differ, values_differ, opposite, holds_back, is_held_back, opposites_agree, AreContainedOnce, NoneIsWithinItself, RootsAreUncontained, Valid}
+use Rattle.wb_model.specs.Contents.{Contents, Filled, members, kind, slot, has_object, is_containment, contains}
+use Rattle.wb_model.specs.Edits.{Link, link, stands}
+use Rattle.wb_model.specs.Valid.{every_object, every_slot, is_abstract, is_of_class, room, is_of_feature, differ, opposite, holds_back, is_held_back, AreContainedOnce, NoneIsWithinItself, RootsAreUncontained, Valid}
 use Rattle.wb_model.proofs.Ends.{Opposed}
 use Rattle.wb_model.proofs.LinkLemmas.{any_found}
 use Rattle.wb_model.proofs.Maps.{slot_cmp_total, slot_cmp-IsAntisymmetric}
@@ -55,6 +54,13 @@ module _ {K X : Type 0} {R : K → K → Ordering} (total : IsTotalOrder R) wher
 
     pub get-every : ((k : K) (x : X) → get m k ≡ Some x → passes (k, x) ≡ true) → list_all passes (entries m) ≡ true
     get-every h = all_In passes (entries m) (λ e i. h e.0 e.1 (get-entries m e.0 ∙ sorted-find (entries m) e (true-of _ (entries_sorted m)) i))
+
+-- an entry of the slots is what they have at its object and feature
+pub entry-In : (m : Contents) (e : (ℕ × ℕ) × Filled) → In e (entries m.slots) → get m.slots e.0 ≡ Some e.1
+entry-In m e i = get-entries m.slots e.0 ∙ sorted-find slot_cmp_total (entries m.slots) e (true-of _ (entries_sorted m.slots)) i
+
+pub In-entry : (m : Contents) (o f : ℕ) (values : Filled) → get m.slots (o, f) ≡ Some values → In ((o, f), values) (entries m.slots)
+In-entry m o f values e = find-In slot_cmp_total slot_cmp-IsAntisymmetric (entries m.slots) (o, f) values (sym (get-entries m.slots (o, f)) ∙ e)
 
 -- ---- links that stand in a model
 

@@ -4,6 +4,7 @@ pub mod Checks
 pub mod Climbs
 pub mod Conditions
 pub mod Contents
+pub mod EditLaws
 pub mod Edits
 pub mod Flaws
 pub mod LinkSteps

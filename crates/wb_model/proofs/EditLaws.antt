@@ -1,0 +1,312 @@
+-- What is true of every edit that is accepted.
+use Rattle.std.proofs.Common.{◌≡◌, ◌≢◌, ℕ, ◌≤◌, suc, Bool, true, false, not, ◌&&◌, ◌||◌, List, [], ◌∷◌, ◌++◌, length, Option, Some, None, refl, sym, ap, subst, ◌∙◌, cond, eqb, arith, ◌⊎◌, inl, inr, ⊎_elim, append-nil}
+use Rattle.std.proofs.lemmas.Bool.{and_parts, and_from, false≢true, not-true, not_from_true, not_from_false, or_left, or_right}
+use Rattle.std.proofs.lemmas.Option.{none-some}
+use Rattle.std.specs.Prelude.{filter, IsSome, Result, Ok}
+use Rattle.std.specs.List.{list_any, flat_map}
+use Rattle.wb_metamodel.specs.Metamodel.{Metamodel}
+use Rattle.wb_metamodel.specs.WellFormed.{WellFormed}
+use Rattle.wb_model.specs.declared.scalars.Scalar.{Scalar}
+use Rattle.wb_model.specs.declared.scalars.Scalar.TheVariants.{Object}
+use Rattle.wb_model.specs.declared.scalars.Place.{Place}
+use Rattle.wb_model.specs.declared.scalars.Place.TheVariants.{Root, In as Inside}
+use Rattle.wb_model.specs.declared.refusals.ModelRefusal.{ModelRefusal}
+use Rattle.wb_model.specs.declared.refusals.ModelRefusal.TheVariants.{UnknownObject}
+use Rattle.wb_model.specs.Contents.{Contents, kind, slot, has_object, contains}
+use Rattle.wb_model.specs.Cells.{tree}
+use Rattle.wb_model.specs.Valid.{opposite, is_root, Within, IsValid}
+use Rattle.wb_model.specs.Edits.{Link, link, relink, both_ends, change, is_at, same_link, gives_way, leads_to, touches, stands, is_among, is_value_among, is_live, link_up, unlink, emptied, moved, removed, created, with_object, without_root, refusal_of_link, refusal_of_take, refusal_of_unset, refusal_of_move, refusal_of_create, set, add, take_out, unset, move_to, remove, create}
+use Rattle.wb_model.specs.EditLaws.{IsEdited, KeepsOrder, NumbersAreFresh, IsNowhere}
+use Rattle.wb_model.specs.EditLaws.IsEdited.{by_set, by_add, by_take, by_unset, by_move, by_remove, by_create}
+use Rattle.wb_model.proofs.Changed.{IsAlone, alone-ends, both-same, relink-Stands}
+use Rattle.wb_model.proofs.EditSteps.{relink-agree, relink-none, filter-all, same_link-is}
+use Rattle.wb_model.proofs.Ends.{Opposed, ends-cases, opposite-back}
+use Rattle.wb_model.proofs.FeatureOwners.{In-cons}
+use Rattle.wb_model.proofs.FewerRoots.{among-filter}
+use Rattle.wb_model.proofs.HolderLemmas.{decide}
+use Rattle.wb_model.proofs.KeptCreated.{kept_create, kind-other}
+use Rattle.wb_model.proofs.KeptLinks.{accepted, sound, housed, kept_set, kept_add, kept_take, kept_unset}
+use Rattle.wb_model.proofs.KeptMoved.{kept_move}
+use Rattle.wb_model.proofs.KeptRemoved.{kept_remove, kind-without, kind-stays, slot-without, among-value}
+use Rattle.wb_model.proofs.LinkLemmas.{any_found, to_false}
+use Rattle.wb_model.proofs.Live.{value-live}
+use Rattle.wb_model.proofs.Members.{In, any_In}
+use Rattle.wb_model.proofs.Members.In.{here, there}
+use Rattle.wb_model.proofs.Relinked.{values_at, is_at-link, slot-relink}
+use Rattle.wb_model.proofs.Sound.{Stands, stands-In, In-stands, absent, Sound}
+use Rattle.wb_model.proofs.TreesWithin.{tree-within, within-tree, among-In, In-among}
+
+-- ---- validity
+
+pub kept : (m n : Contents) → WellFormed m.metamodel → IsValid m → IsEdited m n → IsValid n
+kept m n well v (by_set o f w h) = kept_set m n o f w well v h
+kept m n well v (by_add o f w h) = kept_add m n o f w well v h
+kept m n well v (by_take o f w h) = kept_take m n o f w well v h
+kept m n well v (by_unset o f h) = kept_unset m n o f well v h
+kept m n well v (by_move o p f h) = kept_move m n o p f well v h
+kept m n well v (by_remove o h) = kept_remove m n o well v h
+kept m n well v (by_create class place h) = kept_create m n class place well v h
+
+-- ---- the metamodel stays
+
+same_metamodel-if : (b : Bool) (m n : Contents) → n.metamodel ≡ m.metamodel → (cond b m n).metamodel ≡ m.metamodel
+same_metamodel-if true m n e = refl
+same_metamodel-if false m n e = e
+
+metamodel-relink : (leaves : Link → Bool) (comes : List Link) (m : Contents) → (relink leaves comes m).metamodel ≡ m.metamodel
+unfolding relink
+metamodel-relink leaves comes m = refl
+
+module _ (m : Contents) where
+  metamodel-change : (leaves : Link → Bool) (comes : List Link) → (change leaves comes m).metamodel ≡ m.metamodel
+  metamodel-change leaves comes = metamodel-relink (λ l. list_any leaves (both_ends m.metamodel l)) (flat_map (both_ends m.metamodel) comes) m
+
+  metamodel-linked : (l : Link) → (link_up l m).metamodel ≡ m.metamodel
+  metamodel-linked l = same_metamodel-if (stands m l) m (change (gives_way m.metamodel l) (l ∷ []) m) (metamodel-change (gives_way m.metamodel l) (l ∷ []))
+
+  metamodel-created : (class : ℕ) (place : Place) → (created class place m).metamodel ≡ m.metamodel
+  metamodel-created class Root = refl
+  metamodel-created class (Inside p f) = metamodel-relink (λ l. list_any (λ k. false) (both_ends m.metamodel l)) (flat_map (both_ends m.metamodel) (link p f (Object m.next) ∷ [])) (with_object class m.roots m)
+
+  metamodel-moved : (o p f : ℕ) → (moved o p f m).metamodel ≡ m.metamodel
+  metamodel-moved o p f =
+      same_metamodel-if (stands m (link p f (Object o))) m (change (leads_to m.metamodel o) (link p f (Object o) ∷ []) (without_root o m))
+      (metamodel-relink (λ l. list_any (leads_to m.metamodel o) (both_ends m.metamodel l)) (flat_map (both_ends m.metamodel) (link p f (Object o) ∷ [])) (without_root o m))
+
+  metamodel-removed : (o : ℕ) → (removed o m).metamodel ≡ m.metamodel
+  metamodel-removed o = metamodel-relink (touches (o ∷ tree m o)) [] m
+
+pub same_metamodel : (m n : Contents) → IsEdited m n → n.metamodel ≡ m.metamodel
+same_metamodel m n (by_set o f v h) = let a = accepted (refusal_of_link false m (link o f v)) (link_up (link o f v) m) n h in ap (λ (k : Contents). k.metamodel) (sym a.1) ∙ metamodel-linked m (link o f v)
+same_metamodel m n (by_add o f v h) = let a = accepted (refusal_of_link true m (link o f v)) (link_up (link o f v) m) n h in ap (λ (k : Contents). k.metamodel) (sym a.1) ∙ metamodel-linked m (link o f v)
+same_metamodel m n (by_take o f v h) = let a = accepted (refusal_of_take m (link o f v)) (unlink (link o f v) m) n h in ap (λ (k : Contents). k.metamodel) (sym a.1) ∙ metamodel-change m (same_link (link o f v)) []
+same_metamodel m n (by_unset o f h) = let a = accepted (refusal_of_unset m o f) (emptied o f m) n h in ap (λ (k : Contents). k.metamodel) (sym a.1) ∙ metamodel-change m (is_at o f) []
+same_metamodel m n (by_move o p f h) = let a = accepted (refusal_of_move m o p f) (moved o p f m) n h in ap (λ (k : Contents). k.metamodel) (sym a.1) ∙ metamodel-moved m o p f
+same_metamodel m n (by_remove o h) = let a = accepted (cond (is_live m o) None (Some UnknownObject)) (removed o m) n h in ap (λ (k : Contents). k.metamodel) (sym a.1) ∙ metamodel-removed m o
+same_metamodel m n (by_create class place h) = let a = accepted (refusal_of_create m class place) (created class place m) n h in ap (λ (k : Contents). k.metamodel) (sym a.1) ∙ metamodel-created m class place
+
+-- ---- opposites agree
+
+pub opposites-same : (m : Contents) → WellFormed m.metamodel → IsValid m → (o f p g : ℕ) → opposite m.metamodel f ≡ Some g → has_object (slot m o f) p ≡ has_object (slot m p g) o
+opposites-same m well v o f p g e =
+    let s = sound m v in
+    both-same _ _
+    (λ h. In-stands m (link p g (Object o)) (s.agree (link o f (Object p)) (link p g (Object o)) (stands-In m (link o f (Object p)) h) (record { features = e; to = refl; from = refl })))
+    (λ h. In-stands m (link o f (Object p)) (s.agree (link p g (Object o)) (link o f (Object p)) (stands-In m (link p g (Object o)) h) (record { features = opposite-back m.metamodel well f g e; to = refl; from = refl })))
+
+pub opposites-kept : (m n : Contents) → WellFormed m.metamodel → IsValid m → IsEdited m n → (o f p g : ℕ) → opposite m.metamodel f ≡ Some g → has_object (slot n o f) p ≡ has_object (slot n p g) o
+opposites-kept m n well v e o f p g h =
+    let same = same_metamodel m n e in
+    opposites-same n (subst WellFormed (sym same) well) (kept m n well v e) o f p g (subst (λ mm. opposite mm f ≡ Some g) (sym same) h)
+
+-- ---- removed objects
+
+module _ (m : Contents) (well : WellFormed m.metamodel) (v : IsValid m) (o : ℕ) where
+  abbrev gone : List ℕ
+  gone = o ∷ tree m o
+
+  gone-in : (x : ℕ) → (x ≡ o) ⊎ Within m o x → is_among gone x ≡ true
+  gone-in x e =
+      In-among gone x (⊎_elim (λ s. subst (λ z. In z gone) (sym s) here) (λ w. there (within-tree m (sound m v) (housed m v).no_ring o x w)) e)
+
+  gone-from : (x : ℕ) → is_among gone x ≡ true → (x ≡ o) ⊎ Within m o x
+  gone-from x h = ⊎_elim (λ e. inl (sym e)) (λ i. inr (tree-within m o x i)) (In-cons o (tree m o) x (among-In gone x h))
+
+  nowhere : (x : ℕ) → is_among gone x ≡ true → IsNowhere (removed o m) x
+  nowhere x h = record {
+    dead = kind-without m gone x ∙ ap (λ b. cond (not b) (kind m x) None) h;
+    has_no_value = λ f. slot-without m gone x f ∙ ap (λ b. cond b [] (filter (λ w. not (is_value_among gone w)) (slot m x f))) h;
+    is_no_value = λ p f. to_false _ (λ t.
+        ⊎_elim
+        (λ old. false≢true (sym old.1 ∙ or_right (is_among gone p) _ (among-value gone x h)))
+        (λ new. elim new [ ])
+        (relink-Stands (touches gone) [] m (link p f (Object x)) (stands-In (removed o m) (link p f (Object x)) t)));
+    is_no_root = to_false _ (λ r. false≢true (sym (not_from_true _ h) ∙ (among-filter (λ root. not (is_among gone root)) m.roots x r).1));
+  }
+
+  removed-is : (n : Contents) → remove m o ≡ Ok n → removed o m ≡ n
+  removed-is n h = (accepted (cond (is_live m o) None (Some UnknownObject)) (removed o m) n h).1
+
+  -- a removed object, and what it contained, is nowhere
+  pub removed-nowhere : (n : Contents) → remove m o ≡ Ok n → (x : ℕ) → (x ≡ o) ⊎ Within m o x → IsNowhere n x
+  removed-nowhere n h x e = subst (λ k. IsNowhere k x) (removed-is n h) (nowhere x (gone-in x e))
+
+  -- and the others stay
+  pub others-stay : (n : Contents) → remove m o ≡ Ok n → (x : ℕ) → ¬ ((x ≡ o) ⊎ Within m o x) → kind n x ≡ kind m x
+  others-stay n h x apart = ap (λ (k : Contents). kind k x) (sym (removed-is n h)) ∙ kind-stays m gone x (to_false _ (λ t. apart (gone-from x t)))
+
+-- ---- values keep their order
+
+keeps-all : (vs : List Scalar) → KeepsOrder vs vs
+keeps-all vs = record { stays = λ v. true; last = []; one = omega arith; is = sym (append-nil (filter (λ v. true) vs) ∙ filter-all vs) }
+
+one-last : (o f : ℕ) (ls : List Link) → IsAlone o f ls → length (values_at o f ls) ≤ 1
+one-last o f ls alone =
+    ⊎_elim
+    (λ none. subst (λ vs. length vs ≤ 1) (sym none) (omega arith))
+    (λ one. subst (λ vs. length vs ≤ 1) (sym one.1) (omega arith))
+    alone
+
+keeps-relink : (leaves : Link → Bool) (comes : List Link) (m : Contents) (o f : ℕ) → IsAlone o f comes → KeepsOrder (slot m o f) (slot (relink leaves comes m) o f)
+keeps-relink leaves comes m o f alone = record {
+  stays = λ v. not (leaves (link o f v));
+  last = values_at o f comes;
+  one = one-last o f comes alone;
+  is = slot-relink leaves comes m o f;
+}
+
+module _ (m : Contents) (well : WellFormed m.metamodel) (q g : ℕ) where
+  Keeps : Contents → Type 0
+  Keeps n = KeepsOrder (slot m q g) (slot n q g)
+
+  keeps-left : (leaves : Link → Bool) → Keeps (change leaves [] m)
+  unfolding Keeps
+  keeps-left leaves = keeps-relink (λ l. list_any leaves (both_ends m.metamodel l)) [] m q g (inl refl)
+
+  keeps-one : (leaves : Link → Bool) (l : Link) → Keeps (change leaves (l ∷ []) m)
+  unfolding Keeps
+  keeps-one leaves l = keeps-relink (λ k. list_any leaves (both_ends m.metamodel k)) (flat_map (both_ends m.metamodel) (l ∷ [])) m q g (alone-ends m.metamodel well l q g)
+
+  keeps-if : (b : Bool) (n : Contents) → Keeps n → Keeps (cond b m n)
+  unfolding Keeps
+  keeps-if true n k = keeps-all (slot m q g)
+  keeps-if false n k = k
+
+  keeps-linked : (l : Link) → Keeps (link_up l m)
+  keeps-linked l = keeps-if (stands m l) (change (gives_way m.metamodel l) (l ∷ []) m) (keeps-one (gives_way m.metamodel l) l)
+
+  keeps-created : (class : ℕ) (place : Place) → Keeps (created class place m)
+  unfolding Keeps
+  keeps-created class Root = keeps-all (slot m q g)
+  keeps-created class (Inside p f) =
+      let l : Link = link p f (Object m.next) in
+      keeps-relink (λ k. list_any (λ j. false) (both_ends m.metamodel k)) (flat_map (both_ends m.metamodel) (l ∷ [])) (with_object class m.roots m) q g (alone-ends m.metamodel well l q g)
+
+  keeps-moved : (o p f : ℕ) → Keeps (moved o p f m)
+  unfolding Keeps
+  keeps-moved o p f =
+      let l : Link = link p f (Object o) in
+      keeps-if (stands m l) (change (leads_to m.metamodel o) (l ∷ []) (without_root o m))
+      (keeps-relink (λ k. list_any (leads_to m.metamodel o) (both_ends m.metamodel k)) (flat_map (both_ends m.metamodel) (l ∷ [])) (without_root o m) q g (alone-ends m.metamodel well l q g))
+
+  keeps-removed : (o : ℕ) → Keeps (removed o m)
+  unfolding Keeps
+  keeps-removed o = keeps-relink (touches (o ∷ tree m o)) [] m q g (inl refl)
+
+  keeps : (n : Contents) → IsEdited m n → Keeps n
+  keeps n (by_set o f v h) = let l : Link = link o f v in subst Keeps (accepted (refusal_of_link false m l) (link_up l m) n h).1 (keeps-linked l)
+  keeps n (by_add o f v h) = let l : Link = link o f v in subst Keeps (accepted (refusal_of_link true m l) (link_up l m) n h).1 (keeps-linked l)
+  keeps n (by_take o f v h) = let l : Link = link o f v in subst Keeps (accepted (refusal_of_take m l) (unlink l m) n h).1 (keeps-left (same_link l))
+  keeps n (by_unset o f h) = subst Keeps (accepted (refusal_of_unset m o f) (emptied o f m) n h).1 (keeps-left (is_at o f))
+  keeps n (by_move o p f h) = subst Keeps (accepted (refusal_of_move m o p f) (moved o p f m) n h).1 (keeps-moved o p f)
+  keeps n (by_remove o h) = subst Keeps (accepted (cond (is_live m o) None (Some UnknownObject)) (removed o m) n h).1 (keeps-removed o)
+  keeps n (by_create class place h) = subst Keeps (accepted (refusal_of_create m class place) (created class place m) n h).1 (keeps-created class place)
+
+pub order-kept : (m n : Contents) → WellFormed m.metamodel → IsEdited m n → (o f : ℕ) → KeepsOrder (slot m o f) (slot n o f)
+unfolding Keeps
+order-kept m n well e o f = keeps m well o f n e
+
+-- ---- numbers are fresh
+
+kind-cond : (b : Bool) (r s : Option ℕ) → IsSome (cond b r None) → IsSome r
+kind-cond true r s h = h
+kind-cond false r s h = absurd (false≢true h)
+
+not-some : (r : Option ℕ) → IsSome r → r ≡ None → ⊥
+not-some r h e = false≢true (subst IsSome e h)
+
+module _ (m : Contents) where
+  -- no object comes
+  fresh-fewer : (n : Contents) → n.next ≡ m.next → ((o : ℕ) → IsSome (kind n o) → IsSome (kind m o)) → NumbersAreFresh m n
+  fresh-fewer n next was = record {
+    never_falls = subst (λ k. m.next ≤ k) (sym next) (omega arith);
+    fresh = λ o live none. absurd (not-some (kind m o) (was o live) none);
+  }
+
+  fresh-change : (leaves : Link → Bool) (comes : List Link) → NumbersAreFresh m (change leaves comes m)
+  unfolding relink
+  fresh-change leaves comes = fresh-fewer (change leaves comes m) refl (λ o h. h)
+
+  fresh-if : (b : Bool) (n : Contents) → NumbersAreFresh m n → NumbersAreFresh m (cond b m n)
+  fresh-if true n h = fresh-fewer m refl (λ o h. h)
+  fresh-if false n h = h
+
+  fresh-linked : (l : Link) → NumbersAreFresh m (link_up l m)
+  fresh-linked l = fresh-if (stands m l) (change (gives_way m.metamodel l) (l ∷ []) m) (fresh-change (gives_way m.metamodel l) (l ∷ []))
+
+  fresh-moved : (o p f : ℕ) → NumbersAreFresh m (moved o p f m)
+  unfolding relink
+  fresh-moved o p f =
+      let l : Link = link p f (Object o) in
+      let n : Contents = change (leads_to m.metamodel o) (l ∷ []) (without_root o m) in
+      fresh-if (stands m l) n (fresh-fewer n refl (λ x h. h))
+
+  fresh-removed : (o : ℕ) → NumbersAreFresh m (removed o m)
+  unfolding relink
+  fresh-removed o = fresh-fewer (removed o m) refl (λ x h. kind-cond (not (is_among (o ∷ tree m o) x)) (kind m x) None (subst IsSome (kind-without m (o ∷ tree m o) x) h))
+
+  fresh-grown : (class : ℕ) (roots : List ℕ) → NumbersAreFresh m (with_object class roots m)
+  fresh-grown class roots = record {
+    never_falls = omega arith;
+    fresh = λ o live none. ⊎_elim (λ e. (e, refl)) (λ n. absurd (not-some (kind m o) (subst IsSome (kind-other m class roots o n) live) none)) (decide o m.next);
+  }
+
+  fresh-created : (class : ℕ) (place : Place) → NumbersAreFresh m (created class place m)
+  unfolding relink
+  fresh-created class Root = fresh-grown class (m.roots ++ m.next ∷ [])
+  fresh-created class (Inside p f) = let grown = fresh-grown class m.roots in record { never_falls = grown.never_falls; fresh = grown.fresh }
+
+pub numbers-fresh : (m n : Contents) → IsEdited m n → NumbersAreFresh m n
+numbers-fresh m n (by_set o f v h) = let l : Link = link o f v in subst (NumbersAreFresh m) (accepted (refusal_of_link false m l) (link_up l m) n h).1 (fresh-linked m l)
+numbers-fresh m n (by_add o f v h) = let l : Link = link o f v in subst (NumbersAreFresh m) (accepted (refusal_of_link true m l) (link_up l m) n h).1 (fresh-linked m l)
+numbers-fresh m n (by_take o f v h) = let l : Link = link o f v in subst (NumbersAreFresh m) (accepted (refusal_of_take m l) (unlink l m) n h).1 (fresh-change m (same_link l) [])
+numbers-fresh m n (by_unset o f h) = subst (NumbersAreFresh m) (accepted (refusal_of_unset m o f) (emptied o f m) n h).1 (fresh-change m (is_at o f) [])
+numbers-fresh m n (by_move o p f h) = subst (NumbersAreFresh m) (accepted (refusal_of_move m o p f) (moved o p f m) n h).1 (fresh-moved m o p f)
+numbers-fresh m n (by_remove o h) = subst (NumbersAreFresh m) (accepted (cond (is_live m o) None (Some UnknownObject)) (removed o m) n h).1 (fresh-removed m o)
+numbers-fresh m n (by_create class place h) = subst (NumbersAreFresh m) (accepted (refusal_of_create m class place) (created class place m) n h).1 (fresh-created m class place)
+
+-- ---- what changes nothing
+
+module _ (m : Contents) (s : Sound m) where
+  unlinked-same : (l : Link) → stands m l ≡ false → unlink l m ≡ m
+  unlinked-same l none =
+      relink-agree (λ k. list_any (same_link l) (both_ends m.metamodel k)) (λ k. false) [] [] m
+      (λ k i. to_false _ (λ t. ⊎_elim
+      (λ e. absent m l none (subst (Stands m) (sym (same_link-is l k e)) i))
+      (λ w. absent m l none (subst (Stands m) (sym (same_link-is l w.0 w.2)) (s.agree k w.0 i w.1)))
+      (ends-cases m.metamodel (same_link l) k t)))
+      (λ o f. refl)
+      ∙ relink-none m
+
+  emptied-same : (o f : ℕ) → slot m o f ≡ [] → emptied o f m ≡ m
+  emptied-same o f none =
+      let nothing : (k : Link) → Stands m k → is_at o f k ≡ true → ⊥ = λ k i e.
+      let at : Stands m (link o f k.value) = subst (Stands m) (is_at-link o f k e) i in
+      let in_none : In k.value [] = subst (In k.value) none at in
+      elim in_none [ ] in
+      relink-agree (λ k. list_any (is_at o f) (both_ends m.metamodel k)) (λ k. false) [] [] m
+      (λ k i. to_false _ (λ t. ⊎_elim (λ e. nothing k i e) (λ w. nothing w.0 (s.agree k w.0 i w.1) w.2) (ends-cases m.metamodel (is_at o f) k t)))
+      (λ p g. refl)
+      ∙ relink-none m
+
+  pub linked-same : (l : Link) → stands m l ≡ true → link_up l m ≡ m
+  linked-same l h = ap (λ b. cond b m (change (gives_way m.metamodel l) (l ∷ []) m)) h
+
+  pub moved-same : (o p f : ℕ) → stands m (link p f (Object o)) ≡ true → moved o p f m ≡ m
+  moved-same o p f h = ap (λ b. cond b m (change (leads_to m.metamodel o) (link p f (Object o) ∷ []) (without_root o m))) h
+
+module _ (m n : Contents) (v : IsValid m) where
+  pub set-same : (o f : ℕ) (w : Scalar) → stands m (link o f w) ≡ true → set m o f w ≡ Ok n → n ≡ m
+  set-same o f w h e = let l : Link = link o f w in sym (accepted (refusal_of_link false m l) (link_up l m) n e).1 ∙ linked-same m (sound m v) l h
+
+  pub add-same : (o f : ℕ) (w : Scalar) → stands m (link o f w) ≡ true → add m o f w ≡ Ok n → n ≡ m
+  add-same o f w h e = let l : Link = link o f w in sym (accepted (refusal_of_link true m l) (link_up l m) n e).1 ∙ linked-same m (sound m v) l h
+
+  pub take-same : (o f : ℕ) (w : Scalar) → stands m (link o f w) ≡ false → take_out m o f w ≡ Ok n → n ≡ m
+  take-same o f w h e = let l : Link = link o f w in sym (accepted (refusal_of_take m l) (unlink l m) n e).1 ∙ unlinked-same m (sound m v) l h
+
+  pub unset-same : (o f : ℕ) → slot m o f ≡ [] → unset m o f ≡ Ok n → n ≡ m
+  unset-same o f h e = sym (accepted (refusal_of_unset m o f) (emptied o f m) n e).1 ∙ emptied-same m (sound m v) o f h
+
+  pub move-same : (o p f : ℕ) → stands m (link p f (Object o)) ≡ true → move_to m o p f ≡ Ok n → n ≡ m
+  move-same o p f h e = sym (accepted (refusal_of_move m o p f) (moved o p f m) n e).1 ∙ moved-same m (sound m v) o p f h

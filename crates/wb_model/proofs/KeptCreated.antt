@@ -1,0 +1,349 @@
+-- A new object keeps a model valid.
+use Rattle.std.proofs.Common.{◌≡◌, ◌≢◌, ℕ, ◌+◌, ◌<◌, ◌≤◌, ◌^◌, suc, Bool, true, false, not, ◌&&◌, List, [], ◌∷◌, ◌++◌, length, Some, None, refl, sym, ap, subst, ◌∙◌, cond, eqb, ltb, leb, arith, ◌⊎◌, inl, inr, ⊎_elim, append-nil}
+use Rattle.std.proofs.lemmas.Bool.{and_parts, and_from, false≢true, not-false, not-true, not_from_false, leb-false, eqb-true, eq-eqb, ne_eqb, lt-ltb, or_left, or_right, or_cases, ltb-true}
+use Rattle.std.proofs.lemmas.Bool.Decides.{nat_tests}
+use Rattle.std.proofs.lemmas.Cmp.{nat_cmp_total}
+use Rattle.std.proofs.lemmas.Option.{same_Some}
+use Rattle.std.proofs.lemmas.List.Folds.{list_any-append}
+use Rattle.std.specs.Prelude.{IsSome, Ok}
+use Rattle.std.specs.Option.{option_map_or}
+use Rattle.std.specs.Ordering.{nat_cmp, eq_by_cmp}
+use Rattle.std.specs.List.{list_any, flat_map}
+use Rattle.std.specs.FinMap.{len, get-insert, len-insert, contains_key}
+use Rattle.wb_metamodel.specs.declared.features.Feature.{Feature}
+use Rattle.wb_metamodel.specs.declared.features.Kind.{Kind}
+use Rattle.wb_metamodel.specs.declared.features.Kind.TheVariants.{Int as IntKind, Bool as BoolKind, Text as TextKind, Enum, Reference}
+use Rattle.wb_metamodel.specs.Metamodel.{Metamodel, conforms, feature_at}
+use Rattle.wb_metamodel.specs.WellFormed.{WellFormed}
+use Rattle.wb_model.specs.declared.scalars.Scalar.{Scalar}
+use Rattle.wb_model.specs.declared.scalars.Scalar.TheVariants.{Object}
+use Rattle.wb_model.specs.declared.scalars.Place.{Place}
+use Rattle.wb_model.specs.declared.scalars.Place.TheVariants.{Root, In as Inside}
+use Rattle.wb_model.specs.declared.refusals.ModelRefusal.{ModelRefusal}
+use Rattle.wb_model.specs.declared.refusals.ModelRefusal.TheVariants.{UnknownObject, KindMismatch, UpperBound, AbstractClass, TooManyObjects, IdsSpent}
+use Rattle.wb_model.specs.Contents.{Contents, kind, slot, is_containment, contains}
+use Rattle.wb_model.specs.Valid.{is_abstract, room, is_of_class, is_of_kind, is_of_feature, is_root, once, RootsAreUncontained, IsValid}
+use Rattle.wb_model.specs.Edits.{Link, link, relink, both_ends, with_object, created, first_refusal, is_live, may_contain, refers_to, is_full, refusal_of_create, create}
+use Rattle.wb_model.proofs.Changed.{filter-few, filter-none, stay_at, IsKnown, fits-one, sound-relink, relink-Stands, relink-stays, relink-comes, within-less}
+use Rattle.wb_model.proofs.Ends.{Opposed, containment-one, In-both_ends}
+use Rattle.wb_model.proofs.Found.{is_itself}
+use Rattle.wb_model.proofs.HolderLemmas.{decide}
+use Rattle.wb_model.proofs.KeptLinks.{not_refused, accepted, sound, housed, valid, one-space}
+use Rattle.wb_model.proofs.LinkLemmas.{to_false}
+use Rattle.wb_model.proofs.Live.{kind-some, some-kind, object-live, value-live, holder-live, contained-live, live-below, of_class-kept, of_feature-kept}
+use Rattle.wb_model.proofs.Members.{In}
+use Rattle.wb_model.proofs.Members.In.{here}
+use Rattle.wb_model.proofs.Rehoused.{IsRehoused, housed-rehoused, within-first}
+use Rattle.wb_model.proofs.Relinked.{kind-relink}
+use Rattle.wb_model.proofs.Sound.{contains-parts, contains-from, Sound, Housed}
+
+-- ---- what an accepted edit says
+
+pub record MayCreate (m : Contents) (class : ℕ) : Type 0 where
+  pub concrete : is_abstract m.metamodel class ≡ false
+  pub few : leb 20000 (len m.kinds) ≡ false
+  pub next : leb (2 ^ 32) (suc m.next) ≡ false
+
+abbrev limits : Contents → ℕ → List (Bool × ModelRefusal)
+limits m class = (is_abstract m.metamodel class, AbstractClass) ∷ (leb 20000 (len m.kinds), TooManyObjects) ∷ (leb (2 ^ 32) (suc m.next), IdsSpent) ∷ []
+
+pub may-create : (m : Contents) (class : ℕ) → first_refusal (limits m class) ≡ None → MayCreate m class
+may-create m class h =
+    let a = not_refused (is_abstract m.metamodel class) AbstractClass ((leb 20000 (len m.kinds), TooManyObjects) ∷ (leb (2 ^ 32) (suc m.next), IdsSpent) ∷ []) h in
+    let b = not_refused (leb 20000 (len m.kinds)) TooManyObjects ((leb (2 ^ 32) (suc m.next), IdsSpent) ∷ []) a.1 in
+    let c = not_refused (leb (2 ^ 32) (suc m.next)) IdsSpent [] b.1 in
+    record { concrete = a.0; few = b.0; next = c.0 }
+
+pub record MayPlace (m : Contents) (class p f : ℕ) : Type 0 where
+  pub live : is_live m p ≡ true
+  pub sort : may_contain m p f class ≡ true
+  pub space : is_full m p f ≡ false
+
+pub may-place : (m : Contents) (class p f : ℕ) → refusal_of_create m class (Inside p f) ≡ None → MayPlace m class p f × MayCreate m class
+may-place m class p f h =
+    let a = not_refused (not (is_live m p)) UnknownObject ((not (may_contain m p f class), KindMismatch) ∷ (is_full m p f, UpperBound) ∷ limits m class) h in
+    let b = not_refused (not (may_contain m p f class)) KindMismatch ((is_full m p f, UpperBound) ∷ limits m class) a.1 in
+    let c = not_refused (is_full m p f) UpperBound (limits m class) b.1 in
+    (record { live = not-false _ a.0; sort = not-false _ b.0; space = c.0 }, may-create m class c.1)
+
+-- ---- one more object
+
+tied : (a b : ℕ) → eq_by_cmp nat_cmp a b ≡ eqb a b
+tied a b = grind (arith, nat_tests)
+
+module _ (m : Contents) (class : ℕ) (roots : List ℕ) where
+  abbrev grown : Contents
+  grown = with_object class roots m
+
+  pub kind-grown : (o : ℕ) → kind grown o ≡ cond (eqb o m.next) (Some class) (kind m o)
+  kind-grown o = get-insert nat_cmp_total m.kinds m.next class o ∙ ap (λ b. cond b (Some class) (kind m o)) (tied o m.next)
+
+  pub kind-new : kind grown m.next ≡ Some class
+  kind-new = kind-grown m.next ∙ ap (λ b. cond b (Some class) (kind m m.next)) (is_itself m.next)
+
+  pub kind-other : (o : ℕ) → o ≢ m.next → kind grown o ≡ kind m o
+  kind-other o n = kind-grown o ∙ ap (λ b. cond b (Some class) (kind m o)) (ne_eqb o m.next n)
+
+  module _ (s : Sound m) where
+    next-dead : ¬ (IsSome (kind m m.next))
+    next-dead live = let l = live-below m s m.next live in absurd (omega (arith, l))
+
+    not-next : (o : ℕ) → IsSome (kind m o) → o ≢ m.next
+    not-next o live e = next-dead (subst (λ z. IsSome (kind m z)) e live)
+
+    kind-kept : (o c : ℕ) → kind m o ≡ Some c → kind grown o ≡ Some c
+    kind-kept o c e = kind-other o (not-next o (some-kind m o c e)) ∙ e
+
+    lives : (o : ℕ) → IsSome (kind m o) → IsSome (kind grown o)
+    lives o live = let c = kind-some m o live in some-kind grown o c.0 (kind-kept o c.0 c.1)
+
+    was-live : (o : ℕ) → IsSome (kind grown o) → o ≢ m.next → IsSome (kind m o)
+    was-live o live n = subst IsSome (kind-other o n) live
+
+    -- an object of the new model is the new one, or was there
+    kind-cases : (o c : ℕ) → kind grown o ≡ Some c → ((o ≡ m.next) × (c ≡ class)) ⊎ (kind m o ≡ Some c)
+    kind-cases o c e =
+        ⊎_elim
+        (λ n. inl (n, same_Some c class (sym e ∙ subst (λ z. kind grown z ≡ Some class) (sym n) kind-new)))
+        (λ n. inr (sym (kind-other o n) ∙ e))
+        (decide o m.next)
+
+    first-spent : ltb 0 m.next ≡ true
+    first-spent = (and_parts (ltb 0 m.next) (ltb m.next (2 ^ 32)) s.next_spent).0
+
+    below-more : (o : ℕ) → ltb o m.next ≡ true → ltb o (suc m.next) ≡ true
+    below-more o h = let l = ltb-true _ _ h in lt-ltb _ _ (omega arith)
+
+    module _ (may : MayCreate m class) where
+      numbers-grown : (o c : ℕ) → kind grown o ≡ Some c → (ltb 0 o && ltb o (suc m.next)) ≡ true
+      numbers-grown o c e =
+          ⊎_elim
+          (λ new. subst (λ z. (ltb 0 z && ltb z (suc m.next)) ≡ true) (sym new.0) (and_from _ _ first-spent (lt-ltb m.next (suc m.next) (omega arith))))
+          (λ old. let both = and_parts (ltb 0 o) (ltb o m.next) (s.numbers o c old) in and_from _ _ both.0 (below-more o both.1))
+          (kind-cases o c e)
+
+      concrete-grown : (o c : ℕ) → kind grown o ≡ Some c → not (is_abstract m.metamodel c) ≡ true
+      concrete-grown o c e =
+          ⊎_elim
+          (λ new. subst (λ z. not (is_abstract m.metamodel z) ≡ true) (sym new.1) (not_from_false _ may.concrete))
+          (λ old. s.concrete o c old)
+          (kind-cases o c e)
+
+      more-few : (b : Bool) (n : ℕ) → n < 20000 → cond b n (n + 1) ≤ 20000
+      more-few true n h = omega arith
+      more-few false n h = omega arith
+
+      few-grown : len grown.kinds ≤ 20000
+      few-grown = subst (λ n. n ≤ 20000) (sym (len-insert nat_cmp_total m.kinds m.next class)) (more-few (contains_key m.kinds m.next) (len m.kinds) (leb-false _ _ may.few))
+
+      pub sound-grown : Sound grown
+      sound-grown = record {
+        next_spent = and_from (ltb 0 (suc m.next)) (ltb (suc m.next) (2 ^ 32)) (lt-ltb 0 (suc m.next) (omega arith)) (lt-ltb (suc m.next) (2 ^ 32) (leb-false _ _ may.next));
+        numbers = numbers-grown;
+        concrete = concrete-grown;
+        of_class = λ l i. of_class-kept m (suc m.next) grown.kinds m.slots roots l.object l.feature (λ c e. kind-kept l.object c e) (s.of_class l i);
+        has_room = s.has_room;
+        of_kind = λ l i. of_feature-kept m (suc m.next) grown.kinds m.slots roots l.feature l.value (λ p d e k. kind-kept p d k) (s.of_kind l i);
+        values_differ = s.values_differ;
+        agree = s.agree;
+        few = few-grown;
+      }
+
+-- ---- among the roots
+
+once-push : (os : List ℕ) (o : ℕ) → once os ≡ true → list_any (λ r. eqb r o) os ≡ false → once (os ++ o ∷ []) ≡ true
+once-push [] o h n = refl
+once-push (p ∷ os) o h n =
+    let both = and_parts (not (list_any (λ r. eqb r p) os)) (once os) h in
+    let apart : eqb p o ≡ false = to_false _ (λ t. false≢true (sym n ∙ or_left _ _ t)) in
+    let rest : list_any (λ r. eqb r o) os ≡ false = to_false _ (λ t. false≢true (sym n ∙ or_right (eqb p o) _ t)) in
+    let first : list_any (λ r. eqb r p) (os ++ o ∷ []) ≡ false = to_false _ (λ t.
+    ⊎_elim
+    (λ a. false≢true (sym (not-true _ both.0) ∙ a))
+    (λ b. ⊎_elim (λ e. false≢true (sym apart ∙ eq-eqb p o (sym (eqb-true o p e)))) (λ n. false≢true n) (or_cases (eqb o p) false b))
+    (or_cases (list_any (λ r. eqb r p) os) _ (sym (list_any-append (λ r. eqb r p) os (o ∷ [])) ∙ t))) in
+    and_from _ _ (not_from_false _ first) (once-push os o both.1 rest)
+
+module _ (m : Contents) (class : ℕ) (s : Sound m) (h : Housed m) where
+  abbrev rooted : Contents
+  rooted = with_object class (m.roots ++ m.next ∷ []) m
+
+  root-cases : (o : ℕ) → is_root rooted o ≡ true → (is_root m o ≡ true) ⊎ (o ≡ m.next)
+  root-cases o r =
+      ⊎_elim
+      (λ a. inl a)
+      (λ b. ⊎_elim (λ e. inr (sym (eqb-true m.next o e))) (λ n. absurd (false≢true n)) (or_cases (eqb m.next o) false b))
+      (or_cases (is_root m o) _ (sym (list_any-append (λ r. eqb r o) m.roots (m.next ∷ [])) ∙ r))
+
+  root-old : (o : ℕ) → is_root m o ≡ true → is_root rooted o ≡ true
+  root-old o r = list_any-append (λ r. eqb r o) m.roots (m.next ∷ []) ∙ or_left _ _ r
+
+  root-new : is_root rooted m.next ≡ true
+  root-new = list_any-append (λ r. eqb r m.next) m.roots (m.next ∷ []) ∙ or_right (is_root m m.next) _ (or_left _ _ (is_itself m.next))
+
+  roots-rooted : RootsAreUncontained rooted
+  roots-rooted = record {
+    each_once = once-push m.roots m.next h.roots.each_once (to_false _ (λ t. next-dead m class m.roots s (h.roots.live m.next t)));
+    live = λ o r. ⊎_elim (λ old. lives m class (m.roots ++ m.next ∷ []) s o (h.roots.live o old)) (λ new. subst (λ z. IsSome (kind rooted z)) (sym new) (some-kind rooted m.next class (kind-new m class (m.roots ++ m.next ∷ [])))) (root-cases o r);
+    uncontained = λ o p f r. ⊎_elim (λ old. h.roots.uncontained o p f old) (λ new. to_false _ (λ c. next-dead m class m.roots s (contained-live m s p f m.next (subst (λ z. contains m p f z ≡ true) new c)))) (root-cases o r);
+    all = λ o live none. ⊎_elim
+        (λ e. subst (λ z. is_root rooted z ≡ true) (sym e) root-new)
+        (λ n. root-old o (h.roots.all o (was-live m class (m.roots ++ m.next ∷ []) s o live n) none))
+        (decide o m.next);
+  }
+
+  housed-rooted : Housed rooted
+  housed-rooted = record {
+    once = λ o p q f g live a b. h.once o p q f g (contained-live m s p f o a) a b;
+    no_ring = λ o w. h.no_ring o (within-less m rooted (λ p f x c. c) o o w);
+    roots = roots-rooted;
+  }
+
+-- ---- in a containment slot
+
+pub same-object : (x y : ℕ) → Object x ≡ Object y → x ≡ y
+same-object x y e = cc
+
+-- the links that come with one
+pub In-ends : (mm : Metamodel) (l k : Link) → In k (flat_map (both_ends mm) (l ∷ [])) → (l ≡ k) ⊎ Opposed mm l k
+In-ends mm l k m = In-both_ends mm l k (subst (In k) (append-nil (both_ends mm l)) m)
+
+referred : (m : Contents) (c o : ℕ) (k : Kind) → kind m o ≡ Some c → refers_to m.metamodel c k ≡ true → is_of_kind m k (Object o) ≡ true
+referred m c o IntKind e h = absurd (false≢true h)
+referred m c o BoolKind e h = absurd (false≢true h)
+referred m c o TextKind e h = absurd (false≢true h)
+referred m c o (Enum d) e h = absurd (false≢true h)
+referred m c o (Reference d) e h = ap (λ r. option_map_or (λ b. conforms m.metamodel b d) r false) e ∙ h
+
+-- a containment feature that may hold objects of a class is of the kind of each
+pub held-of_feature : (m : Contents) (f c o : ℕ) → kind m o ≡ Some c → option_map_or (λ (feature : Feature). refers_to m.metamodel c feature.kind) (feature_at m.metamodel f) false ≡ true → is_of_feature m f (Object o) ≡ true
+held-of_feature m f c o e h =
+    elim (feature_at m.metamodel f) as (λ r. option_map_or (λ (feature : Feature). refers_to m.metamodel c feature.kind) r false ≡ true → option_map_or (λ (feature : Feature). is_of_kind m feature.kind (Object o)) r false ≡ true) [
+      | None ↦ λ h. absurd (false≢true h)
+      | Some feature ↦ λ h. referred m c o feature.kind e h
+    ] h
+
+pub record MayHold (m : Contents) (p f c : ℕ) : Type 0 where
+  pub of_class : is_of_class m p f ≡ true
+  pub containment : is_containment m.metamodel f ≡ true
+  pub refers : option_map_or (λ (feature : Feature). refers_to m.metamodel c feature.kind) (feature_at m.metamodel f) false ≡ true
+
+pub may-hold : (m : Contents) (p f c : ℕ) → may_contain m p f c ≡ true → MayHold m p f c
+may-hold m p f c h =
+    let refers = option_map_or (λ (feature : Feature). refers_to m.metamodel c feature.kind) (feature_at m.metamodel f) false in
+    let both = and_parts (is_of_class m p f && is_containment m.metamodel f) refers h in
+    let first = and_parts (is_of_class m p f) (is_containment m.metamodel f) both.0 in
+    record { of_class = first.0; containment = first.1; refers = both.1 }
+
+module _ (m : Contents) (well : WellFormed m.metamodel) (s : Sound m) (h : Housed m) (class p f : ℕ) (may : MayCreate m class) (place : MayPlace m class p f) where
+  abbrev mm : Metamodel
+  mm = m.metamodel
+
+  abbrev wider : Contents
+  wider = with_object class m.roots m
+
+  abbrev new_link : Link
+  new_link = link p f (Object m.next)
+
+  abbrev nothing_leaves : Link → Bool
+  nothing_leaves l = list_any (λ k. false) (both_ends mm l)
+
+  abbrev placed : Contents
+  placed = relink nothing_leaves (flat_map (both_ends mm) (new_link ∷ [])) wider
+
+  holds : MayHold m p f class
+  holds = may-hold m p f class place.sort
+
+  leaves-none : (ls : List Link) → list_any (λ k. false) ls ≡ false
+  leaves-none [] = refl
+  leaves-none (l ∷ ls) = leaves-none ls
+
+  new-known : IsKnown wider new_link
+  new-known = (
+    of_class-kept m (suc m.next) wider.kinds m.slots m.roots p f (λ c e. kind-kept m class m.roots s p c e) holds.of_class,
+    held-of_feature wider f class m.next (kind-new m class m.roots) holds.refers,
+  )
+
+  -- the new object has no values, and stands nowhere
+  no-values : (g : ℕ) (v : Scalar) → In v (slot m m.next g) → ⊥
+  no-values g v i = next-dead m class m.roots s (object-live m s (link m.next g v) i)
+
+  stands-nowhere : (q g : ℕ) → In (Object m.next) (slot m q g) → ⊥
+  stands-nowhere q g i = next-dead m class m.roots s (value-live m s (link q g (Object m.next)) m.next i refl)
+
+  free : (k : Link) → (new_link ≡ k) ⊎ Opposed mm new_link k → length (stay_at nothing_leaves wider k.object k.feature) < room mm k.feature
+  free k e =
+      ⊎_elim
+      (λ same. subst (λ (k : Link). length (stay_at nothing_leaves wider k.object k.feature) < room mm k.feature) same
+      (let few = filter-few (λ v. not (nothing_leaves (link p f v))) (slot m p f) in let below = leb-false _ _ place.space in omega arith))
+      (λ o.
+      let at : m.next ≡ k.object = same-object m.next k.object o.to in
+      subst (λ vs. length vs < room mm k.feature)
+      (sym (filter-none (λ v. not (nothing_leaves (link k.object k.feature v))) (slot m k.object k.feature) (λ v i. absurd (no-values k.feature v (subst (λ q. In v (slot m q k.feature)) (sym at) i)))))
+      (one-space mm k.feature))
+      e
+
+  sound-placed : Sound placed
+  sound-placed =
+      sound-relink nothing_leaves (flat_map (both_ends mm) (new_link ∷ [])) wider (sound-grown m class m.roots s may)
+      (fits-one wider well (sound-grown m class m.roots s may) (λ k. false) new_link new-known (λ i. stands-nowhere p f i) free)
+
+  only : (q g x : ℕ) → contains placed q g x ≡ true → ((contains m q g x ≡ true) × (x ≢ m.next)) ⊎ ((q ≡ p) × (g ≡ f) × (x ≡ m.next))
+  unfolding relink
+  only q g x c =
+      let parts = contains-parts placed q g x c in
+      let held : Link = link q g (Object x) in
+      ⊎_elim
+      (λ old. inl (contains-from m q g x parts.0 old.0, (λ e. stands-nowhere q g (subst (λ z. In (Object z) (slot m q g)) e old.0))))
+      (λ new. ⊎_elim
+      (λ e. inr (ap (λ (k : Link). k.object) (sym e), ap (λ (k : Link). k.feature) (sym e), same-object x m.next (ap (λ (k : Link). k.value) (sym e))))
+      (λ o. absurd (false≢true (sym (containment-one mm well f g o.features holds.containment) ∙ parts.0)))
+      (In-ends mm new_link held new))
+      (relink-Stands nothing_leaves (flat_map (both_ends mm) (new_link ∷ [])) wider held parts.1)
+
+  unleft : (l : Link) → nothing_leaves l ≡ false
+  unleft l = leaves-none (both_ends mm l)
+
+  stays : (q g x : ℕ) → contains m q g x ≡ true → contains placed q g x ≡ true
+  unfolding relink
+  stays q g x c =
+      let parts = contains-parts m q g x c in
+      contains-from placed q g x parts.0 (relink-stays nothing_leaves (flat_map (both_ends mm) (new_link ∷ [])) wider (link q g (Object x)) parts.1 (unleft (link q g (Object x))))
+
+  pub is_placed : contains placed p f m.next ≡ true
+  unfolding relink
+  is_placed = contains-from placed p f m.next holds.containment (relink-comes nothing_leaves (flat_map (both_ends mm) (new_link ∷ [])) wider new_link here)
+
+  kind-placed : (o : ℕ) → kind placed o ≡ kind wider o
+  kind-placed o = kind-relink nothing_leaves (flat_map (both_ends mm) (new_link ∷ [])) wider o
+
+  rehoused : IsRehoused m placed p f m.next
+  unfolding relink
+  rehoused = record {
+    only = only;
+    stays = λ q g x c n. stays q g x c;
+    placed = is_placed;
+    live = λ x live n. was-live m class m.roots s x (subst IsSome (kind-placed x) live) n;
+    lives = λ x live. subst IsSome (sym (kind-placed x)) (lives m class m.roots s x live);
+    apart = λ e. not-next m class m.roots s p place.live e;
+    not_within = λ w. let first = within-first m m.next p w in next-dead m class m.roots s (holder-live m s m.next first.0 first.1 first.2);
+    roots_once = h.roots.each_once;
+    root = λ x r. (r, not-next m class m.roots s x (h.roots.live x r));
+    roots = λ x r n. r;
+  }
+
+  placed-valid : IsValid (created class (Inside p f) m)
+  placed-valid = valid placed sound-placed (housed-rehoused m placed p f m.next rehoused h)
+
+created-valid : (m : Contents) → WellFormed m.metamodel → IsValid m → (class : ℕ) (place : Place) → refusal_of_create m class place ≡ None → IsValid (created class place m)
+created-valid m well v class Root e =
+    let may = may-create m class e in
+    valid (rooted m class (sound m v) (housed m v)) (sound-grown m class (m.roots ++ m.next ∷ []) (sound m v) may) (housed-rooted m class (sound m v) (housed m v))
+created-valid m well v class (Inside p f) e =
+    let may = may-place m class p f e in
+    placed-valid m well (sound m v) (housed m v) class p f may.1 may.0
+
+pub kept_create : (m n : Contents) (class : ℕ) (place : Place) → WellFormed m.metamodel → IsValid m → create m class place ≡ Ok n → IsValid n
+kept_create m n class place well v h =
+    let a = accepted (refusal_of_create m class place) (created class place m) n h in
+    subst IsValid a.1 (created-valid m well v class place a.0)

@@ -1,0 +1,36 @@
+-- What is true of every edit that is accepted.
+use Rattle.std.specs.Prelude.{◌≡◌, ℕ, suc, ◌≤◌, Bool, false, List, [], ◌++◌, filter, length, IsSome, None, Ok}
+use Rattle.wb_model.specs.declared.scalars.Scalar.{Scalar}
+use Rattle.wb_model.specs.declared.scalars.Place.{Place}
+use Rattle.wb_model.specs.Contents.{Contents, kind, slot, has_object}
+use Rattle.wb_model.specs.Valid.{is_root}
+use Rattle.wb_model.specs.Edits.{set, add, take_out, unset, move_to, remove, create}
+
+-- the second model is what an accepted edit makes of the first
+pub data IsEdited (m n : Contents) : Type 0 where
+  by_set : (o f : ℕ) (v : Scalar) → set m o f v ≡ Ok n → IsEdited m n
+  by_add : (o f : ℕ) (v : Scalar) → add m o f v ≡ Ok n → IsEdited m n
+  by_take : (o f : ℕ) (v : Scalar) → take_out m o f v ≡ Ok n → IsEdited m n
+  by_unset : (o f : ℕ) → unset m o f ≡ Ok n → IsEdited m n
+  by_move : (o p f : ℕ) → move_to m o p f ≡ Ok n → IsEdited m n
+  by_remove : (o : ℕ) → remove m o ≡ Ok n → IsEdited m n
+  by_create : (class : ℕ) (place : Place) → create m class place ≡ Ok n → IsEdited m n
+
+-- some of the values stay, in their order, and one value at most comes after them
+pub record KeepsOrder (old new : List Scalar) : Type 0 where
+  pub stays : Scalar → Bool
+  pub last : List Scalar
+  pub one : length last ≤ 1
+  pub is : new ≡ filter stays old ++ last
+
+-- a number that an edit gives to an object was given to none before
+pub record NumbersAreFresh (m n : Contents) : Type 0 where
+  pub never_falls : m.next ≤ n.next
+  pub fresh : (o : ℕ) → IsSome (kind n o) → kind m o ≡ None → (o ≡ m.next) × (n.next ≡ suc m.next)
+
+-- an object is not live, has no values, is no value, and is no root
+pub record IsNowhere (m : Contents) (o : ℕ) : Type 0 where
+  pub dead : kind m o ≡ None
+  pub has_no_value : (f : ℕ) → slot m o f ≡ []
+  pub is_no_value : (p f : ℕ) → has_object (slot m p f) o ≡ false
+  pub is_no_root : is_root m o ≡ false
