@@ -18,7 +18,8 @@ use Rattle.wb_model.specs.Edits.{Link, link, relink, other_end, both_ends, chang
 use Rattle.wb_model.specs.Valid.{has_feature, is_of_class, room, conforms_to, is_of_kind, is_of_feature, differ, Within, is_root, once}
 use Rattle.wb_model.specs.Valid.Within.{directly, through}
 use Rattle.wb_model.proofs.Ends.{opposites, opposite-apart, plain-parts, plain-other, Opposed, other_end-cases, In-other_end, In-both_ends, ends-cases, opposed-unique, opposed-back, ends-mirrored}
-use Rattle.wb_model.proofs.FeatureOwners.{In-cons, filter-In, In-filter, feature-owner, owner-feature}
+use Rattle.wb_model.proofs.FeatureOwners.{feature-owner, owner-feature}
+use Rattle.wb_model.proofs.Filtered.{In-cons, filter-In, In-filter, filter-few}
 use Rattle.wb_model.proofs.LinkLemmas.{any_found, to_false}
 use Rattle.wb_model.proofs.Live.{kind-at}
 use Rattle.wb_model.proofs.Members.{In, any_In, In-append_left, In-append_right, In-append_cases, flat_map-In}
@@ -27,24 +28,6 @@ use Rattle.wb_model.proofs.Relinked.{values_at, is_at-link, is_at-itself, slot-r
 use Rattle.wb_model.proofs.Sound.{Stands, contains-parts, contains-from, Sound, Housed}
 
 -- ---- lists of values
-
-module _ {A : Type 0} (p : A → Bool) where
-  pub filter-few : (xs : List A) → length (filter p xs) ≤ length xs
-  filter-few [] = omega arith
-  filter-few (x ∷ xs) =
-      let few = filter-few xs in
-      elim (p x) as (λ b. length (cond b (x ∷ filter p xs) (filter p xs)) ≤ length (x ∷ xs)) [
-        | true ↦ omega arith
-        | false ↦ omega arith
-      ]
-
-  pub filter-none : (xs : List A) → ((x : A) → In x xs → p x ≡ false) → filter p xs ≡ []
-  filter-none [] h = refl
-  filter-none (x ∷ xs) h = ap (λ b. cond b (x ∷ filter p xs) (filter p xs)) (h x here) ∙ filter-none xs (λ y m. h y (there m))
-
-pub filter-same : (p q : Scalar → Bool) (vs : List Scalar) → ((v : Scalar) → In v vs → p v ≡ q v) → filter p vs ≡ filter q vs
-filter-same p q [] h = refl
-filter-same p q (v ∷ vs) h = λ i. cond (h v here i) (v ∷ filter-same p q vs (λ w m. h w (there m)) i) (filter-same p q vs (λ w m. h w (there m)) i)
 
 differ-filter : (p : Scalar → Bool) (vs : List Scalar) → differ vs ≡ true → differ (filter p vs) ≡ true
 differ-filter p [] h = refl

@@ -1,7 +1,6 @@
 -- What each edit does to the slot that it names.
-use Rattle.std.proofs.Common.{◌≡◌, ℕ, ◌≤◌, suc, Bool, true, false, not, ◌&&◌, List, [], ◌∷◌, ◌++◌, length, Option, Some, None, refl, sym, ap, subst, ◌∙◌, cond, eqb, arith, ◌⊎◌, inl, inr, ⊎_elim, append-nil}
-use Rattle.std.proofs.lemmas.Bool.{and_parts, false≢true, true≢false, not_from_true, not_from_false, cases_Bool, not-true}
-use Rattle.std.proofs.lemmas.Option.{none-some}
+use Rattle.std.proofs.Common.{◌≡◌, ℕ, ◌≤◌, Bool, true, false, not, ◌&&◌, List, [], ◌∷◌, ◌++◌, length, Some, None, refl, sym, ap, subst, ◌∙◌, cond, arith, ⊎_elim, append-nil}
+use Rattle.std.proofs.lemmas.Bool.{and_parts, false≢true, not_from_true, not-true}
 use Rattle.std.specs.Prelude.{filter, Ok}
 use Rattle.std.specs.List.{list_any, flat_map}
 use Rattle.wb_metamodel.specs.Metamodel.{Metamodel}
@@ -14,22 +13,22 @@ use Rattle.wb_model.specs.Scalars.{same}
 use Rattle.wb_model.specs.ScalarLaws.{same_decides}
 use Rattle.wb_model.specs.Contents.{Contents, kind, slot, is_containment, contains}
 use Rattle.wb_model.specs.Cells.{holder}
-use Rattle.wb_model.specs.Valid.{is_many, room, IsValid, AreContainedOnce}
-use Rattle.wb_model.specs.Edits.{Link, link, relink, both_ends, change, is_at, same_link, gives_way, leads_to, stands, link_up, unlink, emptied, moved, created, with_object, without_root, refusal_of_link, refusal_of_take, refusal_of_unset, refusal_of_move, refusal_of_create, set, add, take_out, unset, move_to, create}
-use Rattle.wb_model.proofs.Changed.{alone-ends, In-values_at, filter-same, filter-none}
-use Rattle.wb_model.proofs.EditSteps.{filter-all, none-any}
-use Rattle.wb_model.proofs.Ends.{Opposed, opposite-apart, containment-one, In-both_ends, ends-this, ends-cases}
-use Rattle.wb_model.proofs.FeatureOwners.{In-cons}
+use Rattle.wb_model.specs.Valid.{is_many, IsValid, AreContainedOnce}
+use Rattle.wb_model.specs.Edits.{Link, link, both_ends, change, is_at, same_link, gives_way, leads_to, stands, link_up, unlink, emptied, moved, created, with_object, without_root, refusal_of_link, refusal_of_take, refusal_of_unset, refusal_of_move, refusal_of_create, set, add, take_out, unset, move_to, create}
+use Rattle.wb_model.proofs.Changed.{alone-ends, In-values_at}
+use Rattle.wb_model.proofs.EditSteps.{none-any}
+use Rattle.wb_model.proofs.Ends.{opposite-apart, containment-one, In-both_ends, ends-this, ends-cases}
+use Rattle.wb_model.proofs.Filtered.{In-cons, filter-none, filter-all, filter-same}
 use Rattle.wb_model.proofs.KeptCreated.{kind-new, may-place, is_placed, kept_create}
-use Rattle.wb_model.proofs.KeptLinks.{accepted, sound, housed, IsAccepted, link-accepted, way-all}
+use Rattle.wb_model.proofs.KeptLinks.{accepted, sound, housed, link-accepted, way-all}
 use Rattle.wb_model.proofs.KeptMoved.{moves-into, may-move, is_there, kept_move}
 use Rattle.wb_model.proofs.LinkLemmas.{any_found, to_false}
 use Rattle.wb_model.proofs.Live.{contained-live}
 use Rattle.wb_model.proofs.Members.{In}
-use Rattle.wb_model.proofs.Members.In.{here, there}
+use Rattle.wb_model.proofs.Members.In.{here}
 use Rattle.wb_model.proofs.MoveSteps.{holder-some, holder-none}
 use Rattle.wb_model.proofs.Relinked.{values_at, is_at-link, is_at-itself, slot-relink, kind-relink}
-use Rattle.wb_model.proofs.Sound.{Stands, stands-In, absent, contains-from, Sound, Housed}
+use Rattle.wb_model.proofs.Sound.{stands-In, absent, contains-from, Sound}
 
 -- ---- the value that comes
 
@@ -50,7 +49,7 @@ comes-last : (m : Contents) → WellFormed m.metamodel → (leaves : Link → Bo
 comes-last m well leaves l stay =
     let goes : Link → Bool = λ k. list_any leaves (both_ends m.metamodel k) in
     slot-relink goes (flat_map (both_ends m.metamodel) (l ∷ [])) m l.object l.feature
-    ∙ (λ i. (filter-same (λ v. not (goes (link l.object l.feature v))) (λ v. true) (slot m l.object l.feature) (λ v j. ap not (stay v j)) ∙ filter-all (slot m l.object l.feature)) i ++ own-value m.metamodel well l i)
+    ∙ (λ i. (filter-same (λ v. not (goes (link l.object l.feature v))) (λ v. true) (slot m l.object l.feature) (λ v j. ap not (stay v j)) ∙ filter-all (λ v. true) (slot m l.object l.feature) (λ v j. refl)) i ++ own-value m.metamodel well l i)
 
 -- ---- set and add
 
@@ -170,9 +169,6 @@ module _ (m n : Contents) (well : WellFormed m.metamodel) (v : IsValid m) where
       let l : Link = link o f w in
       subst (λ (k : Contents). slot k o f ≡ filter (λ u. not (same u w)) (slot m o f)) (accepted (refusal_of_take m l) (unlink l m) n h).1 (take-unlinked m well v l)
 
-  pub unset-slot : (o f : ℕ) → unset m o f ≡ Ok n → slot n o f ≡ []
-  unset-slot o f h = subst (λ (k : Contents). slot k o f ≡ []) (accepted (refusal_of_unset m o f) (emptied o f m) n h).1 (unset-emptied m o f)
-
   -- ---- move_to
 
   none-goes : (o p f : ℕ) → is_containment m.metamodel f ≡ true → stands m (link p f (Object o)) ≡ false → (w : Scalar) → In w (slot m p f) → list_any (leads_to m.metamodel o) (both_ends m.metamodel (link p f w)) ≡ false
@@ -216,18 +212,6 @@ module _ (m n : Contents) (well : WellFormed m.metamodel) (v : IsValid m) where
 
   -- ---- create
 
-  created-kind : (class : ℕ) (place : Place) → kind (created class place m) m.next ≡ Some class
-  created-kind class Root = kind-new m class (m.roots ++ m.next ∷ [])
-  created-kind class (Inside p f) =
-      kind-relink (λ k. list_any (λ j. false) (both_ends m.metamodel k)) (flat_map (both_ends m.metamodel) (link p f (Object m.next) ∷ [])) (with_object class m.roots m) m.next
-      ∙ kind-new m class m.roots
-
-  pub create-kind : (class : ℕ) (place : Place) → create m class place ≡ Ok n → kind n m.next ≡ Some class
-  create-kind class place h = subst (λ (k : Contents). kind k m.next ≡ Some class) (accepted (refusal_of_create m class place) (created class place m) n h).1 (created-kind class place)
-
-  pub create-root : (class : ℕ) → create m class Root ≡ Ok n → n.roots ≡ m.roots ++ m.next ∷ []
-  create-root class h = ap (λ (k : Contents). k.roots) (sym (accepted (refusal_of_create m class Root) (created class Root m) n h).1)
-
   pub create-slot : (class p f : ℕ) → create m class (Inside p f) ≡ Ok n → slot n p f ≡ slot m p f ++ Object m.next ∷ []
   create-slot class p f h =
       subst (λ (k : Contents). slot k p f ≡ slot m p f ++ Object m.next ∷ []) (accepted (refusal_of_create m class (Inside p f)) (created class (Inside p f) m) n h).1
@@ -239,3 +223,21 @@ module _ (m n : Contents) (well : WellFormed m.metamodel) (v : IsValid m) where
       let may = may-place m class p f a.0 in
       let after = kept_create m n class (Inside p f) well v h in
       holder-is n (sound n after) (housed n after).once p f m.next (subst (λ (k : Contents). contains k p f m.next ≡ true) a.1 (is_placed m well (sound m v) (housed m v) class p f may.1 may.0))
+
+-- ---- of every model
+
+module _ (m n : Contents) where
+  pub unset-slot : (o f : ℕ) → unset m o f ≡ Ok n → slot n o f ≡ []
+  unset-slot o f h = subst (λ (k : Contents). slot k o f ≡ []) (accepted (refusal_of_unset m o f) (emptied o f m) n h).1 (unset-emptied m o f)
+
+  created-kind : (class : ℕ) (place : Place) → kind (created class place m) m.next ≡ Some class
+  created-kind class Root = kind-new m class (m.roots ++ m.next ∷ [])
+  created-kind class (Inside p f) =
+      kind-relink (λ k. list_any (λ j. false) (both_ends m.metamodel k)) (flat_map (both_ends m.metamodel) (link p f (Object m.next) ∷ [])) (with_object class m.roots m) m.next
+      ∙ kind-new m class m.roots
+
+  pub create-kind : (class : ℕ) (place : Place) → create m class place ≡ Ok n → kind n m.next ≡ Some class
+  create-kind class place h = subst (λ (k : Contents). kind k m.next ≡ Some class) (accepted (refusal_of_create m class place) (created class place m) n h).1 (created-kind class place)
+
+  pub create-root : (class : ℕ) → create m class Root ≡ Ok n → n.roots ≡ m.roots ++ m.next ∷ []
+  create-root class h = ap (λ (k : Contents). k.roots) (sym (accepted (refusal_of_create m class Root) (created class Root m) n h).1)

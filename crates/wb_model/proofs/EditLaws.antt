@@ -1,40 +1,36 @@
 -- What is true of every edit that is accepted.
-use Rattle.std.proofs.Common.{◌≡◌, ◌≢◌, ℕ, ◌≤◌, suc, Bool, true, false, not, ◌&&◌, ◌||◌, List, [], ◌∷◌, ◌++◌, length, Option, Some, None, refl, sym, ap, subst, ◌∙◌, cond, eqb, arith, ◌⊎◌, inl, inr, ⊎_elim, append-nil}
-use Rattle.std.proofs.lemmas.Bool.{and_parts, and_from, false≢true, not-true, not_from_true, not_from_false, or_left, or_right}
-use Rattle.std.proofs.lemmas.Option.{none-some}
-use Rattle.std.specs.Prelude.{filter, IsSome, Result, Ok}
+use Rattle.std.proofs.Common.{◌≡◌, ℕ, ◌≤◌, Bool, true, false, not, List, [], ◌∷◌, ◌++◌, length, Option, Some, None, refl, sym, ap, subst, ◌∙◌, cond, arith, inl, inr, ⊎_elim, append-nil}
+use Rattle.std.proofs.lemmas.Bool.{false≢true, not_from_true, or_right}
+use Rattle.std.specs.Prelude.{filter, IsSome, Ok}
 use Rattle.std.specs.List.{list_any, flat_map}
-use Rattle.wb_metamodel.specs.Metamodel.{Metamodel}
 use Rattle.wb_metamodel.specs.WellFormed.{WellFormed}
 use Rattle.wb_model.specs.declared.scalars.Scalar.{Scalar}
 use Rattle.wb_model.specs.declared.scalars.Scalar.TheVariants.{Object}
 use Rattle.wb_model.specs.declared.scalars.Place.{Place}
 use Rattle.wb_model.specs.declared.scalars.Place.TheVariants.{Root, In as Inside}
-use Rattle.wb_model.specs.declared.refusals.ModelRefusal.{ModelRefusal}
 use Rattle.wb_model.specs.declared.refusals.ModelRefusal.TheVariants.{UnknownObject}
-use Rattle.wb_model.specs.Contents.{Contents, kind, slot, has_object, contains}
+use Rattle.wb_model.specs.Contents.{Contents, kind, slot, has_object}
 use Rattle.wb_model.specs.Cells.{tree}
-use Rattle.wb_model.specs.Valid.{opposite, is_root, Within, IsValid}
-use Rattle.wb_model.specs.Edits.{Link, link, relink, both_ends, change, is_at, same_link, gives_way, leads_to, touches, stands, is_among, is_value_among, is_live, link_up, unlink, emptied, moved, removed, created, with_object, without_root, refusal_of_link, refusal_of_take, refusal_of_unset, refusal_of_move, refusal_of_create, set, add, take_out, unset, move_to, remove, create}
-use Rattle.wb_model.specs.EditLaws.{IsEdited, KeepsOrder, NumbersAreFresh, IsNowhere}
+use Rattle.wb_model.specs.Valid.{opposite, IsValid}
+use Rattle.wb_model.specs.Edits.{Link, link, relink, both_ends, change, is_at, same_link, gives_way, leads_to, touches, stands, is_among, is_value_among, is_live, link_up, unlink, emptied, moved, removed, created, with_object, without_root, refusal_of_link, refusal_of_take, refusal_of_unset, refusal_of_move, refusal_of_create, set, add, take_out, unset, move_to, remove}
+use Rattle.wb_model.specs.EditLaws.{IsEdited, KeepsOrder, NumbersAreFresh, GoesWith, IsNowhere}
 use Rattle.wb_model.specs.EditLaws.IsEdited.{by_set, by_add, by_take, by_unset, by_move, by_remove, by_create}
 use Rattle.wb_model.proofs.Changed.{IsAlone, alone-ends, both-same, relink-Stands}
-use Rattle.wb_model.proofs.EditSteps.{relink-agree, relink-none, filter-all, same_link-is}
-use Rattle.wb_model.proofs.Ends.{Opposed, ends-cases, opposite-back}
-use Rattle.wb_model.proofs.FeatureOwners.{In-cons}
+use Rattle.wb_model.proofs.EditSteps.{relink-agree, relink-none, same_link-is}
+use Rattle.wb_model.proofs.Ends.{ends-cases, opposite-back}
 use Rattle.wb_model.proofs.FewerRoots.{among-filter}
+use Rattle.wb_model.proofs.Filtered.{In-cons, filter-all}
 use Rattle.wb_model.proofs.HolderLemmas.{decide}
 use Rattle.wb_model.proofs.KeptCreated.{kept_create, kind-other}
 use Rattle.wb_model.proofs.KeptLinks.{accepted, sound, housed, kept_set, kept_add, kept_take, kept_unset}
 use Rattle.wb_model.proofs.KeptMoved.{kept_move}
 use Rattle.wb_model.proofs.KeptRemoved.{kept_remove, kind-without, kind-stays, slot-without, among-value}
-use Rattle.wb_model.proofs.LinkLemmas.{any_found, to_false}
-use Rattle.wb_model.proofs.Live.{value-live}
-use Rattle.wb_model.proofs.Members.{In, any_In}
+use Rattle.wb_model.proofs.LinkLemmas.{to_false}
+use Rattle.wb_model.proofs.Members.{In}
 use Rattle.wb_model.proofs.Members.In.{here, there}
 use Rattle.wb_model.proofs.Relinked.{values_at, is_at-link, slot-relink}
 use Rattle.wb_model.proofs.Sound.{Stands, stands-In, In-stands, absent, Sound}
-use Rattle.wb_model.proofs.TreesWithin.{tree-within, within-tree, among-In, In-among}
+use Rattle.wb_model.proofs.Descent.{tree-within, within-tree, among-In, In-among}
 
 -- ---- validity
 
@@ -105,11 +101,11 @@ module _ (m : Contents) (well : WellFormed m.metamodel) (v : IsValid m) (o : ℕ
   abbrev gone : List ℕ
   gone = o ∷ tree m o
 
-  gone-in : (x : ℕ) → (x ≡ o) ⊎ Within m o x → is_among gone x ≡ true
+  gone-in : (x : ℕ) → GoesWith m o x → is_among gone x ≡ true
   gone-in x e =
       In-among gone x (⊎_elim (λ s. subst (λ z. In z gone) (sym s) here) (λ w. there (within-tree m (sound m v) (housed m v).no_ring o x w)) e)
 
-  gone-from : (x : ℕ) → is_among gone x ≡ true → (x ≡ o) ⊎ Within m o x
+  gone-from : (x : ℕ) → is_among gone x ≡ true → GoesWith m o x
   gone-from x h = ⊎_elim (λ e. inl (sym e)) (λ i. inr (tree-within m o x i)) (In-cons o (tree m o) x (among-In gone x h))
 
   nowhere : (x : ℕ) → is_among gone x ≡ true → IsNowhere (removed o m) x
@@ -128,17 +124,17 @@ module _ (m : Contents) (well : WellFormed m.metamodel) (v : IsValid m) (o : ℕ
   removed-is n h = (accepted (cond (is_live m o) None (Some UnknownObject)) (removed o m) n h).1
 
   -- a removed object, and what it contained, is nowhere
-  pub removed-nowhere : (n : Contents) → remove m o ≡ Ok n → (x : ℕ) → (x ≡ o) ⊎ Within m o x → IsNowhere n x
+  pub removed-nowhere : (n : Contents) → remove m o ≡ Ok n → (x : ℕ) → GoesWith m o x → IsNowhere n x
   removed-nowhere n h x e = subst (λ k. IsNowhere k x) (removed-is n h) (nowhere x (gone-in x e))
 
   -- and the others stay
-  pub others-stay : (n : Contents) → remove m o ≡ Ok n → (x : ℕ) → ¬ ((x ≡ o) ⊎ Within m o x) → kind n x ≡ kind m x
+  pub others-stay : (n : Contents) → remove m o ≡ Ok n → (x : ℕ) → ¬ (GoesWith m o x) → kind n x ≡ kind m x
   others-stay n h x apart = ap (λ (k : Contents). kind k x) (sym (removed-is n h)) ∙ kind-stays m gone x (to_false _ (λ t. apart (gone-from x t)))
 
 -- ---- values keep their order
 
 keeps-all : (vs : List Scalar) → KeepsOrder vs vs
-keeps-all vs = record { stays = λ v. true; last = []; one = omega arith; is = sym (append-nil (filter (λ v. true) vs) ∙ filter-all vs) }
+keeps-all vs = record { stays = λ v. true; last = []; one = omega arith; is = sym (append-nil (filter (λ v. true) vs) ∙ filter-all (λ v. true) vs (λ v i. refl)) }
 
 one-last : (o f : ℕ) (ls : List Link) → IsAlone o f ls → length (values_at o f ls) ≤ 1
 one-last o f ls alone =
@@ -289,24 +285,25 @@ module _ (m : Contents) (s : Sound m) where
       (λ p g. refl)
       ∙ relink-none m
 
-  pub linked-same : (l : Link) → stands m l ≡ true → link_up l m ≡ m
+module _ (m n : Contents) where
+  linked-same : (l : Link) → stands m l ≡ true → link_up l m ≡ m
   linked-same l h = ap (λ b. cond b m (change (gives_way m.metamodel l) (l ∷ []) m)) h
 
-  pub moved-same : (o p f : ℕ) → stands m (link p f (Object o)) ≡ true → moved o p f m ≡ m
+  moved-same : (o p f : ℕ) → stands m (link p f (Object o)) ≡ true → moved o p f m ≡ m
   moved-same o p f h = ap (λ b. cond b m (change (leads_to m.metamodel o) (link p f (Object o) ∷ []) (without_root o m))) h
 
-module _ (m n : Contents) (v : IsValid m) where
   pub set-same : (o f : ℕ) (w : Scalar) → stands m (link o f w) ≡ true → set m o f w ≡ Ok n → n ≡ m
-  set-same o f w h e = let l : Link = link o f w in sym (accepted (refusal_of_link false m l) (link_up l m) n e).1 ∙ linked-same m (sound m v) l h
+  set-same o f w h e = let l : Link = link o f w in sym (accepted (refusal_of_link false m l) (link_up l m) n e).1 ∙ linked-same l h
 
   pub add-same : (o f : ℕ) (w : Scalar) → stands m (link o f w) ≡ true → add m o f w ≡ Ok n → n ≡ m
-  add-same o f w h e = let l : Link = link o f w in sym (accepted (refusal_of_link true m l) (link_up l m) n e).1 ∙ linked-same m (sound m v) l h
+  add-same o f w h e = let l : Link = link o f w in sym (accepted (refusal_of_link true m l) (link_up l m) n e).1 ∙ linked-same l h
 
+  pub move-same : (o p f : ℕ) → stands m (link p f (Object o)) ≡ true → move_to m o p f ≡ Ok n → n ≡ m
+  move-same o p f h e = sym (accepted (refusal_of_move m o p f) (moved o p f m) n e).1 ∙ moved-same o p f h
+
+module _ (m n : Contents) (v : IsValid m) where
   pub take-same : (o f : ℕ) (w : Scalar) → stands m (link o f w) ≡ false → take_out m o f w ≡ Ok n → n ≡ m
   take-same o f w h e = let l : Link = link o f w in sym (accepted (refusal_of_take m l) (unlink l m) n e).1 ∙ unlinked-same m (sound m v) l h
 
   pub unset-same : (o f : ℕ) → slot m o f ≡ [] → unset m o f ≡ Ok n → n ≡ m
   unset-same o f h e = sym (accepted (refusal_of_unset m o f) (emptied o f m) n e).1 ∙ emptied-same m (sound m v) o f h
-
-  pub move-same : (o p f : ℕ) → stands m (link p f (Object o)) ≡ true → move_to m o p f ≡ Ok n → n ≡ m
-  move-same o p f h e = sym (accepted (refusal_of_move m o p f) (moved o p f m) n e).1 ∙ moved-same m (sound m v) o p f h

@@ -14,8 +14,9 @@ use Rattle.wb_model.specs.Contents.{Contents, slot}
 use Rattle.wb_model.specs.Valid.{opposite, is_many}
 use Rattle.wb_model.specs.Edits.{Link, link, relink, other_end, both_ends, change, is_at, same_link, gives_way, unlink, emptied}
 use Rattle.wb_model.specs.LinkSteps.{each_left}
-use Rattle.wb_model.proofs.Changed.{filter-same, both-same}
+use Rattle.wb_model.proofs.Changed.{both-same}
 use Rattle.wb_model.proofs.Ends.{Opposed, other_end-is, other_end-In, In-other_end, In-both_ends, ends-this, ends-that, ends-cases, opposed-unique, opposed-back}
+use Rattle.wb_model.proofs.Filtered.{filter-all, filter-same, filter-twice}
 use Rattle.wb_model.proofs.LinkLemmas.{any_found}
 use Rattle.wb_model.proofs.Members.{In, any_In, In-flat_map, flat_map-In}
 use Rattle.wb_model.proofs.Members.In.{here, there}
@@ -23,15 +24,6 @@ use Rattle.wb_model.proofs.Relinked.{values_at, values_at-append, values_at-filt
 use Rattle.wb_model.proofs.Sound.{Stands, Sound}
 
 -- ---- relinks of relinks
-
-filter-twice : (a b : Scalar → Bool) (vs : List Scalar) → filter (λ v. not (b v)) (filter (λ v. not (a v)) vs) ≡ filter (λ v. not (a v || b v)) vs
-filter-twice a b [] = refl
-filter-twice a b (v ∷ vs) =
-    let later = filter-twice a b vs in
-    elim (a v) as (λ t. filter (λ v. not (b v)) (cond (not t) (v ∷ filter (λ v. not (a v)) vs) (filter (λ v. not (a v)) vs)) ≡ cond (not (t || b v)) (v ∷ filter (λ v. not (a v || b v)) vs) (filter (λ v. not (a v || b v)) vs)) [
-      | true ↦ later
-      | false ↦ ap (λ ws. cond (not (b v)) (v ∷ ws) ws) later
-    ]
 
 -- two relinks are one
 pub relink-relink : (a b : Link → Bool) (ls ks : List Link) (m : Contents) → relink b ks (relink a ls m) ≡ relink (λ l. a l || b l) (filter (λ l. not (b l)) ls ++ ks) m
@@ -60,16 +52,12 @@ relink-agree a b ls ks m leave come =
     ∙ (λ i. filter-same (λ v. not (a (link o f v))) (λ v. not (b (link o f v))) (slot m o f) (λ v j. ap not (leave (link o f v) j)) i ++ come o f i)
     ∙ sym (slot-relink b ks m o f))
 
-pub filter-all : (vs : List Scalar) → filter (λ v. true) vs ≡ vs
-filter-all [] = refl
-filter-all (v ∷ vs) = ap (λ ws. v ∷ ws) (filter-all vs)
-
 -- nothing leaves, and nothing comes
 pub relink-none : (m : Contents) → relink (λ l. false) [] m ≡ m
 unfolding relink
 relink-none m =
     same_contents (relink (λ l. false) [] m) m refl refl refl (λ o. refl)
-    (λ o f. slot-relink (λ l. false) [] m o f ∙ append-nil _ ∙ filter-all (slot m o f))
+    (λ o f. slot-relink (λ l. false) [] m o f ∙ append-nil _ ∙ filter-all (λ v. true) (slot m o f) (λ v i. refl))
 
 -- ---- one link leaves
 

@@ -13,7 +13,7 @@ use Rattle.wb_model.specs.Contents.{is_containment}
 use Rattle.wb_model.specs.Cells.{is_container_reference, is_plain}
 use Rattle.wb_model.specs.Valid.{opposite, is_many}
 use Rattle.wb_model.specs.Edits.{Link, link, back, other_end, both_ends}
-use Rattle.wb_model.proofs.FeatureOwners.{In-cons}
+use Rattle.wb_model.proofs.Filtered.{In-cons}
 use Rattle.wb_model.proofs.LinkLemmas.{any_found}
 use Rattle.wb_model.proofs.Members.{In, any_In}
 use Rattle.wb_model.proofs.Members.In.{here, there}

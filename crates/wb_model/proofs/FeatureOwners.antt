@@ -1,5 +1,5 @@
 -- A class has a feature exactly where it conforms to the feature's owner.
-use Rattle.std.proofs.Common.{◌≡◌, ℕ, ◌+◌, ◌<◌, ◌≤◌, Bool, true, false, not, List, [], ◌∷◌, length, Some, refl, sym, ap, subst, ◌∙◌, cond, eqb, zero, suc, arith, ◌⊎◌, inl, inr, ⊎_elim}
+use Rattle.std.proofs.Common.{◌≡◌, ℕ, ◌+◌, ◌<◌, ◌≤◌, Bool, true, false, not, List, [], ◌∷◌, length, Some, refl, sym, ap, subst, ◌∙◌, eqb, zero, suc, arith, ⊎_elim}
 use Rattle.std.proofs.lemmas.Bool.{eqb-true, ne_eqb, not_from_false}
 use Rattle.std.proofs.lemmas.Option.{slice_get_within}
 use Rattle.std.specs.Prelude.{filter}
@@ -12,39 +12,12 @@ use Rattle.wb_metamodel.specs.WellFormed.{WellFormed}
 use Rattle.wb_metamodel.proofs.Paths.{supertype-known, conforms-path, path-conforms}
 use Rattle.wb_metamodel.proofs.Ranks.{features_of-step}
 use Rattle.wb_model.specs.Valid.{has_feature}
+use Rattle.wb_model.proofs.Filtered.{In-cons, filter-In, In-filter}
 use Rattle.wb_model.proofs.Found.{is_itself}
 use Rattle.wb_model.proofs.HolderLemmas.{decide}
 use Rattle.wb_model.proofs.LinkLemmas.{any_found}
 use Rattle.wb_model.proofs.Members.{In, any_In, In-append_left, In-append_right, In-append_cases, In-flat_map, flat_map-In}
 use Rattle.wb_model.proofs.Members.In.{here, there}
-
--- ---- members of a list that pass a test
-
-module _ {A : Type 0} where
-  pub In-cons : (y : A) (ys : List A) (x : A) → In x (y ∷ ys) → (y ≡ x) ⊎ In x ys
-  In-cons y ys x here = inl refl
-  In-cons y ys x (there m) = inr m
-
-  pub filter-In : (p : A → Bool) (xs : List A) (x : A) → In x (filter p xs) → In x xs × (p x ≡ true)
-  filter-In p [] x m = elim m [ ]
-  filter-In p (y ∷ xs) x m =
-      elim (p y) as (λ b. p y ≡ b → In x (cond b (y ∷ filter p xs) (filter p xs)) → In x (y ∷ xs) × (p x ≡ true)) [
-        | true ↦ λ e m.
-            ⊎_elim
-            (λ s. (subst (λ z. In z (y ∷ xs)) s here, subst (λ z. p z ≡ true) s e))
-            (λ n. let r = filter-In p xs x n in (there r.0, r.1))
-            (In-cons y (filter p xs) x m)
-        | false ↦ λ e m. let r = filter-In p xs x m in (there r.0, r.1)
-      ] refl m
-
-  pub In-filter : (p : A → Bool) (xs : List A) (x : A) → In x xs → p x ≡ true → In x (filter p xs)
-  In-filter p [] x m h = elim m [ ]
-  In-filter p (z ∷ xs) x here h = subst (λ b. In x (cond b (x ∷ filter p xs) (filter p xs))) (sym h) here
-  In-filter p (y ∷ xs) x (there m) h =
-      elim (p y) as (λ b. In x (cond b (y ∷ filter p xs) (filter p xs))) [
-        | true ↦ there (In-filter p xs x m h)
-        | false ↦ In-filter p xs x m h
-      ]
 
 -- ---- first places
 

@@ -4,9 +4,9 @@ use Rattle.std.proofs.lemmas.Bool.{and_parts, and_from, false≢true, not-true, 
 use Rattle.std.specs.Prelude.{filter}
 use Rattle.wb_model.specs.Valid.{once}
 use Rattle.wb_model.specs.Edits.{is_among}
-use Rattle.wb_model.proofs.FeatureOwners.{filter-In, In-filter}
+use Rattle.wb_model.proofs.Filtered.{filter-In, In-filter}
 use Rattle.wb_model.proofs.LinkLemmas.{to_false}
-use Rattle.wb_model.proofs.TreesWithin.{among-In, In-among}
+use Rattle.wb_model.proofs.Descent.{among-In, In-among}
 
 module _ (p : ℕ → Bool) where
   pub among-filter : (os : List ℕ) (o : ℕ) → is_among (filter p os) o ≡ true → (is_among os o ≡ true) × (p o ≡ true)

@@ -24,8 +24,9 @@ use Rattle.wb_model.specs.declared.refusals.ModelRefusal.TheVariants.{UnknownObj
 use Rattle.wb_model.specs.Contents.{Contents, kind, slot, is_containment, contains}
 use Rattle.wb_model.specs.Valid.{is_abstract, room, is_of_class, is_of_kind, is_of_feature, is_root, once, RootsAreUncontained, IsValid}
 use Rattle.wb_model.specs.Edits.{Link, link, relink, both_ends, with_object, created, first_refusal, is_live, may_contain, refers_to, is_full, refusal_of_create, create}
-use Rattle.wb_model.proofs.Changed.{filter-few, filter-none, stay_at, IsKnown, fits-one, sound-relink, relink-Stands, relink-stays, relink-comes, within-less}
+use Rattle.wb_model.proofs.Changed.{stay_at, IsKnown, fits-one, sound-relink, relink-Stands, relink-stays, relink-comes, within-less}
 use Rattle.wb_model.proofs.Ends.{Opposed, containment-one, In-both_ends}
+use Rattle.wb_model.proofs.Filtered.{filter-few, filter-none}
 use Rattle.wb_model.proofs.Found.{is_itself}
 use Rattle.wb_model.proofs.HolderLemmas.{decide}
 use Rattle.wb_model.proofs.KeptLinks.{not_refused, accepted, sound, housed, valid, one-space}

@@ -13,8 +13,9 @@ use Rattle.wb_model.specs.Contents.{Contents, slot}
 use Rattle.wb_model.specs.Cells.{is_plain}
 use Rattle.wb_model.specs.Valid.{is_many, room, is_of_class, is_of_feature, IsValid}
 use Rattle.wb_model.specs.Edits.{Link, link, relink, both_ends, change, is_at, same_link, stands, gives_way, link_up, unlink, emptied, first_refusal, unless, is_live, is_known_value, is_full, is_plain_link, is_plain_feature, finds_no_room, refusal_of_link, refusal_of_take, refusal_of_unset, set, add, take_out, unset}
-use Rattle.wb_model.proofs.Changed.{filter-few, filter-none, stay_at, IsKnown, fits-none, fits-one, sound-relink, contains-plain, housed-same}
+use Rattle.wb_model.proofs.Changed.{stay_at, IsKnown, fits-none, fits-one, sound-relink, contains-plain, housed-same}
 use Rattle.wb_model.proofs.Ends.{Opposed, plain-back, In-other_end, In-both_ends, ends-this}
+use Rattle.wb_model.proofs.Filtered.{filter-few, filter-none}
 use Rattle.wb_model.proofs.LinkLemmas.{any_found, to_false}
 use Rattle.wb_model.proofs.Members.{In, any_In}
 use Rattle.wb_model.proofs.Members.In.{here, there}

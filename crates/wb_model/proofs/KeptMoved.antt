@@ -16,9 +16,10 @@ use Rattle.wb_model.specs.Contents.{Contents, kind, slot, is_containment, contai
 use Rattle.wb_model.specs.Cells.{tree}
 use Rattle.wb_model.specs.Valid.{room, opposite, is_instance, is_of_kind, is_of_feature, IsValid}
 use Rattle.wb_model.specs.Edits.{Link, link, relink, both_ends, change, leads_to, without_root, moved, stands, is_among, is_live, is_full, may_contain, conforms_as, refusal_of_move, move_to}
-use Rattle.wb_model.proofs.Changed.{filter-few, filter-none, stay_at, IsKnown, fits-one, sound-relink, relink-Stands, relink-stays, relink-comes}
+use Rattle.wb_model.proofs.Changed.{stay_at, IsKnown, fits-one, sound-relink, relink-Stands, relink-stays, relink-comes}
 use Rattle.wb_model.proofs.Ends.{opposites, opposite-back, containment-one, Opposed, ends-this, ends-that, ends-cases}
 use Rattle.wb_model.proofs.FewerRoots.{among-filter, filter-among, once-filter}
+use Rattle.wb_model.proofs.Filtered.{filter-few, filter-none}
 use Rattle.wb_model.proofs.KeptCreated.{MayHold, may-hold, held-of_feature, same-object, In-ends}
 use Rattle.wb_model.proofs.KeptLinks.{and-true, not_refused, accepted, sound, housed, valid, one-space}
 use Rattle.wb_model.proofs.LinkLemmas.{to_false}
@@ -28,7 +29,7 @@ use Rattle.wb_model.proofs.Members.In.{here}
 use Rattle.wb_model.proofs.Rehoused.{IsRehoused, housed-rehoused}
 use Rattle.wb_model.proofs.Relinked.{kind-relink}
 use Rattle.wb_model.proofs.Sound.{absent, contains-parts, contains-from, Sound, Housed}
-use Rattle.wb_model.proofs.TreesWithin.{within-tree, In-among}
+use Rattle.wb_model.proofs.Descent.{within-tree, In-among}
 
 -- ---- what an accepted edit says
 

@@ -18,19 +18,19 @@ use Rattle.wb_model.specs.Cells.{tree}
 use Rattle.wb_model.specs.Valid.{is_of_class, is_of_feature, Within, RootsAreUncontained, IsValid}
 use Rattle.wb_model.specs.Valid.Within.{directly, through}
 use Rattle.wb_model.specs.Edits.{Link, link, relink, touches, is_among, is_value_among, is_live, without, removed, remove}
-use Rattle.wb_model.proofs.Changed.{filter-few, filter-none, Fits, sound-relink, relink-Stands, relink-stays, within-less}
+use Rattle.wb_model.proofs.Changed.{Fits, sound-relink, relink-Stands, relink-stays, within-less}
 use Rattle.wb_model.proofs.Ends.{Opposed}
 use Rattle.wb_model.proofs.FewerRoots.{among-filter, filter-among, once-filter}
+use Rattle.wb_model.proofs.Filtered.{In-cons, filter-few, filter-none}
 use Rattle.wb_model.proofs.KeptCreated.{same-object}
 use Rattle.wb_model.proofs.KeptLinks.{accepted, sound, housed, valid}
 use Rattle.wb_model.proofs.LinkLemmas.{any_found, to_false}
 use Rattle.wb_model.proofs.Live.{kind-some, some-kind, contained-live, of_class-kept, of_feature-kept}
 use Rattle.wb_model.proofs.Members.{In, any_In}
 use Rattle.wb_model.proofs.Members.In.{there}
-use Rattle.wb_model.proofs.FeatureOwners.{In-cons}
 use Rattle.wb_model.proofs.Relinked.{slot-relink}
 use Rattle.wb_model.proofs.Sound.{Stands, contains-parts, contains-from, Sound, Housed}
-use Rattle.wb_model.proofs.TreesWithin.{tree-within, within-tree, among-In, In-among}
+use Rattle.wb_model.proofs.Descent.{tree-within, within-tree, among-In, In-among}
 
 -- ---- values among objects
 

@@ -1,6 +1,7 @@
 pub mod ArrangedLemmas
 pub mod Changed
 pub mod Climbing
+pub mod Descent
 pub mod EditEffects
 pub mod EditLaws
 pub mod EditSteps
@@ -8,6 +9,7 @@ pub mod EmptyContents
 pub mod Ends
 pub mod FeatureOwners
 pub mod FewerRoots
+pub mod Filtered
 pub mod Found
 pub mod Shown
 pub mod HolderLemmas
@@ -27,7 +29,6 @@ pub mod RootLemmas
 pub mod Sound
 pub mod Steps
 pub mod Trees
-pub mod TreesWithin
 pub mod ValidSlots
 pub mod ValidTest
 pub mod Placed

@@ -1,14 +1,11 @@
 -- A move as steps: the object leaves its container or the roots, and then it comes.
-use Rattle.std.proofs.Common.{◌≡◌, ◌≢◌, ℕ, Bool, true, false, not, ◌&&◌, ◌||◌, List, [], ◌∷◌, ◌++◌, Option, Some, None, refl, sym, ap, subst, ◌∙◌, cond, eqb, T, ◌⊎◌, inl, inr, ⊎_elim}
-use Rattle.std.proofs.lemmas.Bool.{and_parts, and_from, false≢true, eqb-true, ne_eqb, eq-eqb, not_from_false}
+use Rattle.std.proofs.Common.{◌≡◌, ℕ, Bool, true, false, not, ◌||◌, List, [], ◌∷◌, Some, None, refl, sym, ap, subst, ◌∙◌, cond, eqb, ⊎_elim}
+use Rattle.std.proofs.lemmas.Bool.{and_parts, and_from, false≢true, ne_eqb, eq-eqb, not_from_false}
 use Rattle.std.proofs.lemmas.Option.{none-some, same_Some}
 use Rattle.std.specs.Prelude.{filter, find}
 use Rattle.std.specs.Option.{option_map, option_map_or}
 use Rattle.std.specs.List.{list_any, flat_map}
 use Rattle.std.specs.FinMap.{entries, get}
-use Rattle.wb_metamodel.specs.Metamodel.{Metamodel}
-use Rattle.wb_metamodel.specs.WellFormed.{WellFormed}
-use Rattle.wb_model.specs.declared.scalars.Scalar.{Scalar}
 use Rattle.wb_model.specs.declared.scalars.Scalar.TheVariants.{Object}
 use Rattle.wb_model.specs.Scalars.{same}
 use Rattle.wb_model.specs.ScalarLaws.{same_decides}
@@ -18,8 +15,9 @@ use Rattle.wb_model.specs.Valid.{is_root}
 use Rattle.wb_model.specs.Edits.{Link, link, relink, both_ends, change, leads_to, same_link, unlink, without_root}
 use Rattle.wb_model.proofs.Changed.{both-same}
 use Rattle.wb_model.proofs.EditSteps.{none-any, relink-relink, relink-agree, same_link-is, same_link-itself}
-use Rattle.wb_model.proofs.Ends.{Opposed, ends-this, ends-that, ends-cases}
-use Rattle.wb_model.proofs.LinkLemmas.{any_found, to_false}
+use Rattle.wb_model.proofs.Ends.{ends-this, ends-that, ends-cases}
+use Rattle.wb_model.proofs.Filtered.{filter-all}
+use Rattle.wb_model.proofs.LinkLemmas.{to_false}
 use Rattle.wb_model.proofs.Live.{contained-live}
 use Rattle.wb_model.proofs.Members.{In, any_In}
 use Rattle.wb_model.proofs.Members.In.{here, there}
@@ -76,14 +74,10 @@ or-none : (b : Bool) (ls : List Link) → (b || list_any (λ k. false) ls) ≡ b
 or-none true ls = refl
 or-none false ls = none-any ls
 
-filter-whole : (p : ℕ → Bool) (os : List ℕ) → ((o : ℕ) → In o os → p o ≡ true) → filter p os ≡ os
-filter-whole p [] h = refl
-filter-whole p (o ∷ os) h = ap (λ b. cond b (o ∷ filter p os) (filter p os)) (h o here) ∙ ap (λ rest. o ∷ rest) (filter-whole p os (λ q m. h q (there m)))
-
 -- an object that is no root
 no-root : (o : ℕ) (m : Contents) → is_root m o ≡ false → without_root o m ≡ m
 no-root o m h =
-    let same : filter (λ root. not (eqb root o)) m.roots ≡ m.roots = filter-whole (λ root. not (eqb root o)) m.roots (λ q i. not_from_false _ (ne_eqb q o (λ e. false≢true (sym h ∙ any_In (λ root. eqb root o) m.roots q i (eq-eqb q o e))))) in
+    let same : filter (λ root. not (eqb root o)) m.roots ≡ m.roots = filter-all (λ root. not (eqb root o)) m.roots (λ q i. not_from_false _ (ne_eqb q o (λ e. false≢true (sym h ∙ any_In (λ root. eqb root o) m.roots q i (eq-eqb q o e))))) in
     λ i. record { metamodel = m.metamodel; next = m.next; kinds = m.kinds; slots = m.slots; roots = same i }
 
 module _ (m : Contents) (s : Sound m) (h : Housed m) (o : ℕ) where

@@ -138,7 +138,7 @@ at_entries o f (e ∷ es) h =
     ] refl
     ∙ ap (λ b. option_map_or members (cond b (Some e.1) (find slot_cmp (o, f) es)) []) (sym (tie o f e.0.0 e.0.1))
 
-true-of : (b : Bool) → T b → b ≡ true
+pub true-of : (b : Bool) → T b → b ≡ true
 true-of true t = refl
 true-of false t = absurd t
 

@@ -1,5 +1,5 @@
 -- What is true of each object and each slot of a valid model, said of links.
-use Rattle.std.proofs.Common.{◌≡◌, ℕ, ◌^◌, ◌≤◌, Bool, true, false, not, ◌&&◌, List, [], ◌∷◌, length, Some, None, refl, sym, ap, subst, ◌∙◌, cond, ltb, leb, arith, Ordering, Less, T}
+use Rattle.std.proofs.Common.{◌≡◌, ℕ, ◌^◌, ◌≤◌, Bool, true, false, not, ◌&&◌, List, [], ◌∷◌, length, Some, None, refl, sym, ap, subst, ◌∙◌, cond, ltb, leb, arith, Ordering, Less}
 use Rattle.std.proofs.lemmas.Bool.{and_parts, and_from, false≢true, leb-true, le-leb}
 use Rattle.std.proofs.lemmas.Cmp.{nat_cmp_total, tied_itself}
 use Rattle.std.specs.Cmp.{IsTotalOrder}
@@ -20,12 +20,9 @@ use Rattle.wb_model.proofs.LinkLemmas.{any_found}
 use Rattle.wb_model.proofs.Maps.{slot_cmp_total, slot_cmp-IsAntisymmetric}
 use Rattle.wb_model.proofs.Members.{In, all_In, In-all, any_In, find-In}
 use Rattle.wb_model.proofs.Members.In.{here, there}
+use Rattle.wb_model.proofs.Relinked.{true-of}
 
 -- ---- tests of the entries of a map
-
-true-of : (b : Bool) → T b → b ≡ true
-true-of true t = refl
-true-of false t = absurd t
 
 less : (r : Ordering) → is_lt r ≡ true → r ≡ Less
 less Less h = refl

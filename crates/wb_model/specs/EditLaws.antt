@@ -1,9 +1,9 @@
 -- What is true of every edit that is accepted.
-use Rattle.std.specs.Prelude.{◌≡◌, ℕ, suc, ◌≤◌, Bool, false, List, [], ◌++◌, filter, length, IsSome, None, Ok}
+use Rattle.std.specs.Prelude.{◌≡◌, ℕ, suc, ◌≤◌, ◌⊎◌, Bool, false, List, [], ◌++◌, filter, length, IsSome, None, Ok}
 use Rattle.wb_model.specs.declared.scalars.Scalar.{Scalar}
 use Rattle.wb_model.specs.declared.scalars.Place.{Place}
 use Rattle.wb_model.specs.Contents.{Contents, kind, slot, has_object}
-use Rattle.wb_model.specs.Valid.{is_root}
+use Rattle.wb_model.specs.Valid.{is_root, Within}
 use Rattle.wb_model.specs.Edits.{set, add, take_out, unset, move_to, remove, create}
 
 -- the second model is what an accepted edit makes of the first
@@ -27,6 +27,10 @@ pub record KeepsOrder (old new : List Scalar) : Type 0 where
 pub record NumbersAreFresh (m n : Contents) : Type 0 where
   pub never_falls : m.next ≤ n.next
   pub fresh : (o : ℕ) → IsSome (kind n o) → kind m o ≡ None → (o ≡ m.next) × (n.next ≡ suc m.next)
+
+-- the second object goes where the first is removed: it is that object, or stands within it
+abbrev pub GoesWith : Contents → ℕ → ℕ → Type 0
+GoesWith m o x = (x ≡ o) ⊎ Within m o x
 
 -- an object is not live, has no values, is no value, and is no root
 pub record IsNowhere (m : Contents) (o : ℕ) : Type 0 where

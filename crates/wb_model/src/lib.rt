@@ -14,6 +14,7 @@ mod edits;
 mod edits_checks;
 mod edits_links;
 mod edits_of_models;
+mod edit_laws;
 mod flaws;
 mod holders;
 mod holding;
@@ -33,6 +34,11 @@ mod validity;
 
 pub use building::build;
 pub use change_list::ChangeList;
+pub use edit_laws::{
+    created_objects_have_their_place, edits_change_their_slot, edits_give_new_numbers,
+    edits_keep_models_valid, edits_keep_opposites, edits_keep_the_order, edits_may_change_nothing,
+    moved_objects_have_their_container, removed_objects_are_nowhere,
+};
 pub use model::{Model, empty};
 pub use parts::{BuildRefusal, Part, SlotPart};
 pub use refusals::ModelRefusal;

@@ -14,8 +14,7 @@ use Rattle.wb_model.specs.Cells.{objects_in, features, content, tree_within, tre
 use Rattle.wb_model.specs.Valid.{has_feature, is_of_class, Within, NoneIsWithinItself}
 use Rattle.wb_model.specs.Valid.Within.{directly, through}
 use Rattle.wb_model.specs.Edits.{link, is_among}
-use Rattle.wb_model.proofs.Changed.{filter-few}
-use Rattle.wb_model.proofs.FeatureOwners.{In-cons, filter-In, In-filter}
+use Rattle.wb_model.proofs.Filtered.{In-cons, filter-In, In-filter, filter-few}
 use Rattle.wb_model.proofs.Found.{is_itself}
 use Rattle.wb_model.proofs.LinkLemmas.{any_found}
 use Rattle.wb_model.proofs.Live.{kind-at, kind-some, holder-live, contained-live}
