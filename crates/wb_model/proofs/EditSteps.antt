@@ -13,6 +13,7 @@ use Rattle.wb_model.specs.ScalarLaws.{same_decides}
 use Rattle.wb_model.specs.Contents.{Contents, slot}
 use Rattle.wb_model.specs.Valid.{opposite, is_many}
 use Rattle.wb_model.specs.Edits.{Link, link, relink, other_end, both_ends, change, is_at, same_link, gives_way, unlink, emptied}
+use Rattle.wb_model.specs.LinkSteps.{each_left}
 use Rattle.wb_model.proofs.Changed.{both-same}
 use Rattle.wb_model.proofs.Ends.{Opposed, other_end-is, other_end-In, In-other_end, In-both_ends, ends-this, ends-that, ends-cases, opposed-unique, opposed-back}
 use Rattle.wb_model.proofs.Filtered.{filter-all, filter-same, filter-twice}
@@ -126,11 +127,6 @@ module _ (m : Contents) (well : WellFormed m.metamodel) where
 
   pub emptied-alone : (o f : ℕ) → opposite m.metamodel f ≡ None → emptied o f m ≡ relink (is_at o f) [] m
   emptied-alone o f none = relink-agree (λ k. list_any (is_at o f) (ends k)) (is_at o f) [] [] m (λ k i. at-none o f k none) (λ p g. refl)
-
--- links leave one by one
-abbrev pub each_left : List Link → Contents → Contents
-each_left [] m = m
-each_left (l ∷ ls) m = each_left ls (relink (same_link l) [] m)
 
 abbrev pub among : List Link → Link → Bool
 among ls k = list_any (λ l. same_link l k) ls

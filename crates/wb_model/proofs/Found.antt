@@ -34,7 +34,7 @@ module _ {A : Type 0} (number : A → ℕ) where
   not_less : (a b : ℕ) → b < a → is_lt (nat_cmp a b) ≡ false
   not_less a b h = grind (arith, nat_tests)
 
-  rises-sorted : (xs : List A) → rises number xs ≡ true → IsSortedBy (λ a b. is_lt (nat_cmp (number a) (number b))) xs
+  pub rises-sorted : (xs : List A) → rises number xs ≡ true → IsSortedBy (λ a b. is_lt (nat_cmp (number a) (number b))) xs
   rises-sorted xs h k d l m = not_less _ _ (rises-below xs k (k + 1) d h (omega arith) m)
 
   never_less : (a b : ℕ) → nat_cmp a b ≡ Ordering.Less → a ≢ b

@@ -37,3 +37,10 @@ pub mod TreesWithin
 pub mod Trees
 pub mod ValidSlots
 pub mod ValidTest
+pub mod Placed
+pub mod SlotLemmas
+pub mod RecordLemmas
+pub mod Relinks
+pub mod OtherEnds
+pub mod Comings
+pub mod EditedLemmas

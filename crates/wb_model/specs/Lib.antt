@@ -7,6 +7,7 @@ pub mod Contents
 pub mod EditLaws
 pub mod Edits
 pub mod Flaws
+pub mod LinkSteps
 pub mod Links
 pub mod Parts
 pub mod Places
@@ -16,5 +17,6 @@ pub mod Rings
 pub mod Roots
 pub mod ScalarLaws
 pub mod Scalars
+pub mod Slots
 pub mod Valid
 pub mod ValidTest

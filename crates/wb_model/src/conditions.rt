@@ -94,7 +94,7 @@ fn meets(store: &Store, condition: Condition, o: ObjectId, f: FeatureId, values:
     }
 }
 
-fn is_of_class(store: &Store, o: ObjectId, f: FeatureId) -> bool
+pub fn is_of_class(store: &Store, o: ObjectId, f: FeatureId) -> bool
     ensures { result ≡ is_of_class store.now o f }
 {
     match store.kind(o) {
@@ -104,7 +104,7 @@ fn is_of_class(store: &Store, o: ObjectId, f: FeatureId) -> bool
 }
 
 // How many values a slot of the feature may have.
-fn room(metamodel: &Metamodel, f: FeatureId) -> usize
+pub fn room(metamodel: &Metamodel, f: FeatureId) -> usize
     requires { f < length metamodel.now.features }
     ensures { result ≡ room metamodel.now f }
 {
@@ -123,7 +123,7 @@ fn are_of_kinds(store: &Store, f: FeatureId, values: &[Scalar]) -> bool
     true
 }
 
-fn is_of_feature(store: &Store, f: FeatureId, value: &Scalar) -> bool
+pub fn is_of_feature(store: &Store, f: FeatureId, value: &Scalar) -> bool
     requires { f < length store.now.metamodel.features }
     ensures { result ≡ is_of_feature store.now f value.now }
 {

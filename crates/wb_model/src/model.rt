@@ -13,7 +13,7 @@ use wb_metamodel::{ClassId, FeatureId, Metamodel, ObjectId};
 /// A valid model: objects of a metamodel's classes, with the values of their features.
 #[derive(Drop)]
 pub struct Model {
-    store: Store,
+    pub(crate) store: Store,
 }
 
 impl std::marker::Model for Model {

@@ -1,13 +1,17 @@
-ghost use Rattle.std.specs.Prelude.{◌≡◌, ◌<◌, length, IfSome, IfOk};
+ghost use Rattle.std.specs.Prelude.{◌≡◌, ◌<◌, [], ◌∷◌, length, IsSome, IfSome, IfOk, OnOk, OnErr};
 ghost use Rattle.std.specs.FinMap.{len};
 ghost use Rattle.wb_model.specs.Contents.{kind, slot, empty_contents};
 ghost use Rattle.wb_model.specs.Cells.{holder};
+ghost use Rattle.wb_model.specs.Edits.{link};
+ghost use Rattle.wb_model.specs.LinkSteps.{with_link, with_only, without_link, without_slot};
 
 use crate::arranged::arranged_records;
 use crate::copies::{copy_objects, copy_records};
 use crate::parts::Part;
 use crate::records::{Record, find_object, holding_object, values_of};
 use crate::scalars::Scalar;
+use crate::slots::alone;
+use crate::slots_of_objects::{drop_from, push_to, replace_at, take_from};
 use std::alloc::{AllocError, Global};
 use std::marker::Model;
 use wb_base::{Duplicate, List};
@@ -145,6 +149,56 @@ impl Store {
         ensures { result ≡ holder self.now o }
     {
         holding_object(&self.metamodel, self.records.as_slice(), o)
+    }
+
+    /// Puts a value last in a slot of a live object.
+    pub fn put_last(
+        &mut self,
+        alloc: Global,
+        o: ObjectId,
+        f: FeatureId,
+        value: Scalar,
+    ) -> Result<(), AllocError>
+        requires live { IsSome (kind self.old o) }
+        requires known { f < length self.old.metamodel.features }
+        ensures ok { OnOk result (self.new ≡ with_link (link o f value) self.old) }
+        ensures err { OnErr result (self.new ≡ self.old) }
+    {
+        push_to(alloc, &mut self.records, o, f, value)
+    }
+
+    /// Makes a value the only one in a slot of a live object.
+    pub fn put_alone(
+        &mut self,
+        alloc: Global,
+        o: ObjectId,
+        f: FeatureId,
+        value: Scalar,
+    ) -> Result<(), AllocError>
+        requires live { IsSome (kind self.old o) }
+        requires known { f < length self.old.metamodel.features }
+        ensures ok { OnOk result (self.new ≡ with_only (link o f value) self.old) }
+        ensures err { OnErr result (self.new ≡ self.old) }
+    {
+        let values = alone(alloc, value)?;
+        replace_at(alloc, &mut self.records, o, f, values)
+    }
+
+    /// Takes a value out of a slot.
+    pub fn drop_value(&mut self, alloc: Global, o: ObjectId, f: FeatureId, value: &Scalar)
+        requires { f < length self.old.metamodel.features }
+        ensures { self.new ≡ without_link (link o f value.now) self.old }
+    {
+        drop_from(alloc, &mut self.records, o, f, value);
+    }
+
+    /// Takes all values out of a slot.
+    pub fn take_values(&mut self, alloc: Global, o: ObjectId, f: FeatureId) -> List<Scalar>
+        requires { f < length self.old.metamodel.features }
+        ensures taken { result ≡ slot self.old o f }
+        ensures left { self.new ≡ without_slot o f self.old }
+    {
+        take_from(alloc, &mut self.records, o, f)
     }
 }
 

@@ -1,0 +1,72 @@
+-- What an edit's answer says: a refusal that is told, want of memory, or the model of the definition.
+use Rattle.std.proofs.Common.{◌≡◌, ℕ, Bool, true, false, Option, Some, None, Result, Ok, Err, refl, sym, ap, subst, ◌∙◌, ◌&&◌}
+use Rattle.std.proofs.lemmas.Bool.{and_parts, false≢true}
+use Rattle.std.specs.Prelude.{IsSome, is_some}
+use Rattle.std.specs.Result.{IsErrAnd}
+use Rattle.wb_metamodel.specs.WellFormed.{WellFormed}
+use Rattle.wb_model.specs.declared.refusals.ModelRefusal.{ModelRefusal}
+use Rattle.wb_model.specs.declared.refusals.ModelRefusal.TheVariants.{UnknownObject, KindMismatch, UpperBound, ContainmentCycle, AbstractClass, TooManyObjects, IdsSpent, NoMemory}
+use Rattle.wb_model.specs.Contents.{Contents, kind}
+use Rattle.wb_model.specs.Valid.{IsValid, is_of_feature}
+use Rattle.wb_model.specs.Edits.{Link, link, unless, Edited, is_live, is_known_value, is_plain_feature, refusal_of_link}
+use Rattle.wb_model.proofs.KeptLinks.{IsAccepted, link-accepted}
+
+-- a refusal of the definition, and the model as before
+pub refused : (A : Type 0) (e : ModelRefusal) (edit : Result Contents ModelRefusal) (m : Contents) → edit ≡ Err e → Edited {A = A} (Err e) edit m m
+refused A UnknownObject edit m h = (h, refl)
+refused A KindMismatch edit m h = (h, refl)
+refused A UpperBound edit m h = (h, refl)
+refused A ContainmentCycle edit m h = (h, refl)
+refused A AbstractClass edit m h = (h, refl)
+refused A TooManyObjects edit m h = (h, refl)
+refused A IdsSpent edit m h = (h, refl)
+refused A NoMemory edit m h = refl
+
+-- the refusal that a check tells is that of the edit
+pub told : (A : Type 0) (refusal : Option ModelRefusal) (e : ModelRefusal) (x m : Contents) → Err e ≡ unless refusal (tt {0}) → Edited {A = A} (Err e) (unless refusal x) m m
+told A None e x m h = cc
+told A (Some r) e x m h =
+    let same : r ≡ e = cc in
+    refused A e (Err r) m (ap Err same)
+
+pub none_told : (refusal : Option ModelRefusal) → Ok (tt {0}) ≡ unless refusal (tt {0}) → refusal ≡ None
+none_told None h = refl
+none_told (Some r) h = cc
+
+-- an edit that is not refused
+pub done : (refusal : Option ModelRefusal) (x n : Contents) → Ok (tt {0}) ≡ unless refusal (tt {0}) → n ≡ x → unless refusal x ≡ Ok n
+done refusal x n h e = ap (λ r. unless r x) (none_told refusal h) ∙ ap Ok (sym e)
+
+pub no_memory : (A : Type 0) (e : ModelRefusal) (edit : Result Contents ModelRefusal) (m n : Contents) → e ≡ NoMemory → n ≡ m → Edited {A = A} (Err e) edit m n
+no_memory A e edit m n h same = subst (λ e. Edited {A = A} (Err e) edit m n) (sym h) same
+
+is_some-IsSome : (r : Option ℕ) → is_some r ≡ true → IsSome r
+is_some-IsSome None h = h
+is_some-IsSome (Some x) h = refl
+
+pub accepted_live : (many : Bool) (m : Contents) (l : Link) → Ok (tt {0}) ≡ unless (refusal_of_link many m l) (tt {0}) → IsSome (kind m l.object)
+accepted_live many m l h =
+    let a = link-accepted many m l (none_told (refusal_of_link many m l) h) in
+    is_some-IsSome (kind m l.object) (and_parts (is_live m l.object) (is_known_value m l.value) a.known).0
+
+pub accepted_value : (many : Bool) (m : Contents) (l : Link) → Ok (tt {0}) ≡ unless (refusal_of_link many m l) (tt {0}) → is_of_feature m l.feature l.value ≡ true
+accepted_value many m l h =
+    let a = link-accepted many m l (none_told (refusal_of_link many m l) h) in
+    (and_parts (is_plain_feature m l.object l.feature) (is_of_feature m l.feature l.value) a.plain).1
+
+-- an edit that keeps models valid leaves a valid one in any case
+pub edited_valid : {A : Type 0} (r : Result A ModelRefusal) (edit : Result Contents ModelRefusal) (m n : Contents) → Edited r edit m n → IsValid m → ((k : Contents) → edit ≡ Ok k → IsValid k) → IsValid n
+edited_valid (Ok x) edit m n h valid kept = kept n h
+edited_valid (Err NoMemory) edit m n h valid kept = subst IsValid (sym h) valid
+edited_valid (Err UnknownObject) edit m n h valid kept = subst IsValid (sym h.1) valid
+edited_valid (Err KindMismatch) edit m n h valid kept = subst IsValid (sym h.1) valid
+edited_valid (Err UpperBound) edit m n h valid kept = subst IsValid (sym h.1) valid
+edited_valid (Err ContainmentCycle) edit m n h valid kept = subst IsValid (sym h.1) valid
+edited_valid (Err AbstractClass) edit m n h valid kept = subst IsValid (sym h.1) valid
+edited_valid (Err TooManyObjects) edit m n h valid kept = subst IsValid (sym h.1) valid
+edited_valid (Err IdsSpent) edit m n h valid kept = subst IsValid (sym h.1) valid
+
+-- the same where the refusal is passed on
+pub told_on : {A : Type 0} (refusal : Option ModelRefusal) (r : Result A ModelRefusal) (e : ModelRefusal) (x m : Contents) → IsErrAnd r (λ d. d ≡ e) → Err e ≡ unless refusal (tt {0}) → Edited r (unless refusal x) m m
+told_on refusal (Ok y) e x m p h = absurd p
+told_on {A} refusal (Err d) e x m p h = told A refusal d x m (ap Err p ∙ h)

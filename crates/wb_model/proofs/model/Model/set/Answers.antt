@@ -1,0 +1,12 @@
+use Rattle.std.proofs.Common.{subst}
+use Rattle.wb_metamodel.specs.WellFormed.{WellFormed}
+use Rattle.wb_model.specs.Edits.{set}
+use Rattle.wb_model.proofs.EditedLemmas.{edited_valid}
+use Rattle.wb_model.proofs.KeptLinks.{kept_set}
+use Rattle.wb_model.proofs.model.Model.set.Goals as goal
+
+pub invariant_of-self : goal.invariant_of-self
+invariant_of-self c =
+    let m = c.self.inside.store in
+    let well = subst WellFormed c.metamodel.ensures c.well_formed-2.ensures in
+    edited_valid c.set.result (set m c.args.o c.args.f c.args.value) m c.set.new.self c.set.ensures c.self.invariant (λ n e. kept_set m n c.args.o c.args.f c.args.value well c.self.invariant e)

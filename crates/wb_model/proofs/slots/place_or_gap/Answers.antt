@@ -1,0 +1,16 @@
+use Rattle.std.proofs.Common.{◌≡◌, ℕ, ◌≤◌, true, List, length, Result, Ok, Err, subst, rules}
+use Rattle.std.proofs.lemmas.Cmp.{nat_cmp_total}
+use Rattle.std.proofs.lemmas.List.Sorted.{answers_always, searchable_from_sorted}
+use Rattle.std.specs.Ordering.{nat_cmp}
+use Rattle.std.specs.List.Sorted.{IsBinarySearchResult, IsSearchInRange}
+use Rattle.wb_model.specs.Places.{rises}
+use Rattle.wb_model.specs.Records.{feature_of}
+use Rattle.wb_model.specs.Slots.{IsPlaceOrGap}
+use Rattle.wb_model.proofs.Placed.{place_or_gap}
+use Rattle.wb_model.proofs.slots.place_or_gap.Goals as goal
+
+pub returns : goal.returns
+returns c =
+    let facts = c.binary_search_by_key.ensures in
+    let by_number = facts.position feature_of (answers_always _ _ _ (λ f a r g called. search rules)) in
+    subst (λ n. IsPlaceOrGap feature_of c.args.slots.now n c.binary_search_by_key.result) c.f.view_is (place_or_gap feature_of c.args.slots.now _ c.binary_search_by_key.result c.requires facts.bound by_number)

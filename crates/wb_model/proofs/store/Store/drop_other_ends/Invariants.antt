@@ -1,0 +1,9 @@
+use Rattle.std.proofs.Common.{◌≡◌, drop}
+use Rattle.std.specs.List.{flat_map}
+use Rattle.wb_model.specs.Edits.{link, other_end}
+use Rattle.wb_model.specs.LinkSteps.{each_left}
+use Rattle.wb_model.proofs.OtherEnds.{EndsLeave}
+use Rattle.wb_model.proofs.store.Store.drop_other_ends.Given as goal
+
+abbrev pub invariant-loop-value : goal.invariant-loop-value
+invariant-loop-value l = EndsLeave l.fn.self l.self l.o l.f l.value-index l.values

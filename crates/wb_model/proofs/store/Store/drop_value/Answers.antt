@@ -1,0 +1,14 @@
+use Rattle.std.proofs.Common.{◌∙◌, ◌≡◌, ap, sym, subst}
+use Rattle.wb_model.specs.Contents.{Contents, slot}
+use Rattle.wb_model.specs.Edits.{link}
+use Rattle.wb_model.specs.LinkSteps.{with_link, with_only, without_link, without_slot}
+use Rattle.wb_model.specs.Records.{contents_of}
+use Rattle.wb_model.proofs.RecordLemmas.{on_ok, on_err}
+use Rattle.wb_model.proofs.Relinks.{put_shown, only_shown, drop_shown, empty_shown, same_shown, held_is, live_numbered, known_inside}
+use Rattle.wb_model.proofs.store.Store.drop_value.Goals as goal
+
+pub returns : goal.returns
+returns c =
+    let s = c.self.inside in
+    let known = known_inside _ _ c.args.f c.self.view_is c.requires in
+    drop_shown s.metamodel s.next s.roots s.records.items c.drop_from.new.records.items c.args.o c.args.f known c.self.invariant c.args.value.now c.drop_from.ensures ∙ ap (λ (m : Contents). without_link (link c.args.o c.args.f c.args.value.now) m) c.self.view_is

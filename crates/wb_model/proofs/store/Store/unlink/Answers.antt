@@ -1,0 +1,22 @@
+use Rattle.std.proofs.Common.{◌≡◌, ◌<◌, ◌∙◌, ap, sym, subst, length, []}
+use Rattle.wb_metamodel.specs.Metamodel.{Metamodel}
+use Rattle.wb_metamodel.specs.WellFormed.{WellFormed}
+use Rattle.wb_model.specs.Contents.{Contents}
+use Rattle.wb_model.specs.Edits.{Link, link, other_end, same_link}
+use Rattle.wb_model.specs.LinkSteps.{each_left, without_link}
+use Rattle.wb_model.proofs.Comings.{metamodel-relink, unlink_steps}
+use Rattle.wb_model.proofs.store.Store.unlink.Goals as goal
+
+pub drop_other_end-requires : goal.drop_other_end-requires
+drop_other_end-requires c =
+    let l = link c.args.o c.args.f c.args.value.now in
+    subst (λ (metamodel : Metamodel). c.args.f < length metamodel.features) (sym (ap (λ (m : Contents). m.metamodel) c.drop_value.ensures ∙ metamodel-relink (same_link l) [] c.args.self.now)) c.requires
+
+pub returns : goal.returns
+returns c =
+    let l = link c.args.o c.args.f c.args.value.now in
+    let well = subst WellFormed c.metamodel.ensures c.well_formed-2.ensures in
+    c.drop_other_end.ensures
+    ∙ (λ i. each_left (other_end (c.drop_value.ensures i).metamodel l) (c.drop_value.ensures i))
+    ∙ ap (λ (metamodel : Metamodel). each_left (other_end metamodel l) (without_link l c.args.self.now)) (metamodel-relink (same_link l) [] c.args.self.now)
+    ∙ unlink_steps c.args.self.now well l

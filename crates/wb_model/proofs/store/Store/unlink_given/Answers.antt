@@ -1,0 +1,11 @@
+use Rattle.std.proofs.Common.{◌≡◌, ◌∙◌, ap, sym, []}
+use Rattle.std.specs.Prelude.{Option}
+use Rattle.wb_model.specs.Edits.{relink}
+use Rattle.wb_model.specs.LinkSteps.{is_given}
+use Rattle.wb_model.proofs.EditSteps.{relink-none}
+use Rattle.wb_model.proofs.store.Store.unlink_given.Goals as goal
+
+pub returns-in_default : goal.returns-in_default
+returns-in_default c =
+    let m = c.args.self.now in
+    sym (ap (λ r. relink (is_given m.metamodel c.args.o c.args.f r) [] m) c.in_default.is ∙ relink-none m)

@@ -1,0 +1,48 @@
+-- The steps of which edits are made: one link comes or leaves, at one end alone.
+use Rattle.std.specs.Prelude.{ℕ, Bool, false, List, [], ◌∷◌, Option, Some, None, if◌then◌else◌}
+use Rattle.std.specs.Option.{option_map_or}
+use Rattle.std.specs.List.{list_any}
+use Rattle.wb_metamodel.specs.Metamodel.{Metamodel}
+use Rattle.wb_model.specs.declared.scalars.Scalar.{Scalar}
+use Rattle.wb_model.specs.declared.scalars.Scalar.TheVariants.{Object}
+use Rattle.wb_model.specs.Contents.{Contents, slot}
+use Rattle.wb_model.specs.Valid.{is_many}
+use Rattle.wb_model.specs.Edits.{Link, link, relink, same_link, is_at, both_ends, change}
+
+-- a link comes last in its slot
+abbrev pub with_link : Link → Contents → Contents
+with_link l m = relink (λ k. false) (l ∷ []) m
+
+-- a link comes in place of all that its slot has
+abbrev pub with_only : Link → Contents → Contents
+with_only l m = relink (is_at l.object l.feature) (l ∷ []) m
+
+-- a link leaves
+abbrev pub without_link : Link → Contents → Contents
+without_link l m = relink (same_link l) [] m
+
+-- all links of a slot leave
+abbrev pub without_slot : ℕ → ℕ → Contents → Contents
+without_slot o f m = relink (is_at o f) [] m
+
+-- links leave one by one
+abbrev pub each_left : List Link → Contents → Contents
+each_left [] m = m
+each_left (l ∷ ls) m = each_left ls (without_link l m)
+
+-- a link comes, and its other end
+abbrev pub with_ends : Link → Contents → Contents
+with_ends l m = change (λ k. false) (l ∷ []) m
+
+-- the link to an object that is given, if one is, and its other end
+abbrev pub is_given : Metamodel → ℕ → ℕ → Option ℕ → Link → Bool
+is_given metamodel o f given k = option_map_or (λ p. list_any (same_link (link o f (Object p))) (both_ends metamodel k)) given false
+
+-- the object at the head of a slot
+abbrev pub first_object : List Scalar → Option ℕ
+first_object (Object p ∷ values) = Some p
+first_object _ = None
+
+-- the object that gives way where another comes to a slot of one value
+abbrev pub gives_place : Contents → ℕ → ℕ → Option ℕ
+gives_place m o f = if is_many m.metamodel f then None else first_object (slot m o f)
