@@ -8,3 +8,8 @@ pub mod Whole
 pub mod Nodes
 pub mod Steps
 pub mod Unique
+pub mod Measures
+pub mod Shorter
+pub mod Parts
+pub mod Picks
+pub mod Growing

@@ -2,9 +2,12 @@
 #![tactic(auto)]
 
 mod arguments;
+mod atom;
 mod expr;
 mod laws;
 mod level;
+mod parser;
+mod postfix;
 mod reading;
 mod stop;
 mod token;
