@@ -3,7 +3,7 @@ use Rattle.std.proofs.Common.{◌≡◌, ℕ, List, [], ◌∷◌, refl, sym, ap
 use Rattle.std.specs.Prelude.{Option, Some, None, ◌⊎◌, ◌↔◌, Bool, true, false, IsTrue}
 use Rattle.wb_aql_syntax.specs.Tree.{Tree, Trees, Arguments, no_trees, no_arguments}
 use Rattle.wb_aql_syntax.specs.Tree as t
-use Rattle.wb_aql_syntax.specs.Grammar.{Phrase, Expr, Implies, Neg, Cmp, CmpMore, Sum, Unary, Post, Atom, PostMore, Named, Featured, CallArguments, Argument, ArgumentMore, Elements, Element, ElementMore, Rest, done, sign, name, phrase, last}
+use Rattle.wb_aql_syntax.specs.Grammar.{Expr, Implies, Neg, Cmp, CmpMore, Sum, Unary, Post, Atom, PostMore, Named, Featured, CallArguments, Argument, ArgumentMore, Elements, Element, ElementMore, Rest, done, sign, phrase, last}
 use Rattle.wb_aql_syntax.specs.Runs.{head, Outcome, Good, Wrong, pick, expr_next, neg_next, unary_next, named_next, featured_next, atom_next, arguments_next, argument_more_next, argument_next, elements_next, element_more_next, call, Runs}
 use Rattle.wb_aql_syntax.specs.Runs as run
 use Rattle.wb_aql_syntax.specs.Reading.{operand, whole, more, let_line, if_line, parentheses_line, braces, literal_rest, Names}
@@ -14,7 +14,6 @@ use Rattle.wb_aql_syntax.specs.declared.expr.CallKind.TheVariants as d
 use Rattle.wb_aql_syntax.specs.declared.expr.Constant.TheVariants as c
 use Rattle.wb_aql_syntax.specs.declared.expr.CollectionKind.{CollectionKind}
 use Rattle.wb_aql_syntax.specs.declared.expr.CollectionKind.TheVariants as k
-use Rattle.wb_aql_syntax.specs.declared.expr.Unary.TheVariants as u
 use Rattle.wb_aql_syntax.specs.declared.token.Sign.{Sign as SignName}
 use Rattle.wb_aql_syntax.specs.declared.token.Sign.TheVariants as s
 use Rattle.wb_aql_syntax.specs.declared.token.Token.{Token}

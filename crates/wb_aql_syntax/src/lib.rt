@@ -9,6 +9,7 @@ mod level;
 mod parser;
 mod postfix;
 mod reading;
+mod spelled;
 mod stop;
 mod token;
 

@@ -1,7 +1,6 @@
 use Rattle.wb_aql_syntax.proofs.Steps.{comes}
 use Rattle.wb_aql_syntax.proofs.Parts.{as_tree}
 use Rattle.wb_aql_syntax.proofs.Picks.{takes_literal, takes_variable}
-use Rattle.wb_aql_syntax.proofs.Shorter.{runs_within}
 use Rattle.wb_aql_syntax.proofs.atom.parse_named.Goals as goal
 
 pub returns-in-Some : goal.returns-in-Some
