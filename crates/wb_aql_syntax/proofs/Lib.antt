@@ -1,3 +1,8 @@
+pub mod Words
+pub mod Spellings
+pub mod Next
+pub mod Pieces
+pub mod Lexing
 pub mod Languages
 pub mod Ranks
 pub mod Local

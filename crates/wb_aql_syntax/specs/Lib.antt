@@ -5,3 +5,4 @@ pub mod Grammar
 pub mod Tree
 pub mod View
 pub mod Lexes
+pub mod Lexer

@@ -2,14 +2,19 @@
 #![tactic(auto)]
 
 mod arguments;
+mod characters;
 mod expr;
 mod laws;
 mod level;
+mod lexer;
+mod quotes;
 mod reading;
+mod signs;
 mod stop;
 mod token;
 
 pub use expr::{Argument, Binary, CallKind, CollectionKind, Constant, Node, Unary};
 pub use laws::{one_place_of_depth, one_place_of_syntax, one_refusal, one_tree};
+pub use lexer::{Lexed, tokens_of};
 pub use token::{Sign, Token};
 pub use wb_base::Text;
