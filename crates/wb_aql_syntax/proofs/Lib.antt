@@ -3,6 +3,7 @@ pub mod Spellings
 pub mod Next
 pub mod Pieces
 pub mod Lexing
+pub mod Apart
 pub mod Languages
 pub mod Ranks
 pub mod Local

@@ -161,7 +161,7 @@ spelled_start (Integer n) (c ∷ front) h = ap (λ x. Some x) (integer_starts c 
 spelled_start (Quoted value) front h = ap first_start h.0.whole
 spelled_start Bad front h = absurd h
 
-starts_more : (front rest : List ℕ) (s : Start) → first_start front ≡ Some s → first_start (front ++ rest) ≡ Some s
+pub starts_more : (front rest : List ℕ) (s : Start) → first_start front ≡ Some s → first_start (front ++ rest) ≡ Some s
 starts_more [] rest s e = absurd (nothing e)
 starts_more (c ∷ front) rest s e = e
 

@@ -1,7 +1,8 @@
 -- Signs and reserved words.
-use Rattle.std.proofs.Common.{◌≡◌, ◌≢◌, ℕ, ◌≤◌, false, List, [], ◌∷◌, length, Option, Some, refl, sym, ap, ◌∙◌, lit≤}
+use Rattle.std.proofs.Common.{◌≡◌, ◌≢◌, ℕ, ◌≤◌, false, List, [], ◌∷◌, length, Option, Some, None, refl, sym, ap, ◌∙◌, lit≤}
 use Rattle.std.specs.Prelude.{bytes_eq, true, find}
 use Rattle.std.specs.List.{list_all}
+use Rattle.std.specs.Str.{byte}
 use Rattle.std.proofs.lemmas.Bool.{false_from_ne_true}
 use Rattle.std.proofs.lemmas.Slice.Eq.{bytes_eq-Decides}
 use Rattle.wb_aql_syntax.specs.Lexes.{word_of, is_reserved, reserved, is_name_byte}
@@ -75,3 +76,7 @@ some_same e = cc
 
 pub same_sign : (x y : SignName) → word_of x ≡ word_of y → x ≡ y
 same_sign x y e = some_same (sym (found x) ∙ ap sign_of e ∙ found y)
+
+pub no_colon : (x : SignName) → word_of x ≡ byte ":" ∷ [] → ⊥
+unfolding sign_of all word_of
+no_colon x e = let wrong : None ≡ Some x = ap sign_of (sym e) ∙ found x in cc

@@ -6,3 +6,4 @@ pub mod Tree
 pub mod View
 pub mod Lexes
 pub mod Lexer
+pub mod Apart
