@@ -4,6 +4,7 @@ pub mod Next
 pub mod Pieces
 pub mod Lexing
 pub mod Apart
+pub mod OneLexing
 pub mod Languages
 pub mod Ranks
 pub mod Local
