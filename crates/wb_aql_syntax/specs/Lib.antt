@@ -5,3 +5,6 @@ pub mod Runs
 pub mod Grammar
 pub mod Tree
 pub mod View
+pub mod Lexes
+pub mod Lexer
+pub mod Apart
