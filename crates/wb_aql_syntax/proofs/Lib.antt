@@ -20,3 +20,4 @@ pub mod Shorter
 pub mod Parts
 pub mod Picks
 pub mod Growing
+pub mod Texts

@@ -1,0 +1,42 @@
+ghost use Rattle.std.specs.Prelude.{◌≡◌, IfOk, IfErr};
+ghost use Rattle.wb_aql_syntax.specs.Tree.{Tree};
+ghost use Rattle.wb_aql_syntax.specs.Expressions.{SpellsText, TakesText, Refuses, offset_at as offset_of_place};
+
+use crate::expression::Expr;
+use crate::lexer::{Lexed, tokens_of};
+use crate::refusal::ParseRefusal;
+use crate::spelled::{TokenRefusal, parse_tokens};
+use std::alloc::Global;
+
+/// The expression that the text spells, with at most 64 openings and 4 lambdas open at once.
+pub fn parse(alloc: Global, text: &[u8]) -> Result<Expr, ParseRefusal>
+    ensures found { IfOk result (SpellsText text.now) }
+    ensures taken { (x : Tree) → SpellsText text.now x → TakesText x result }
+    ensures refused { IfErr result (Refuses text.now) }
+{
+    let Lexed { tokens, starts } = tokens_of(alloc, text)?;
+    match parse_tokens(alloc, tokens.as_slice()) {
+        Ok(node) => Ok(Expr::new(node)),
+        Err(TokenRefusal::Syntax(place)) => Err(ParseRefusal::Syntax(offset_at(
+            text,
+            starts.as_slice(),
+            place,
+        ))),
+        Err(TokenRefusal::TooDeep(place)) => Err(ParseRefusal::TooDeep(offset_at(
+            text,
+            starts.as_slice(),
+            place,
+        ))),
+        Err(TokenRefusal::NoMemory) => Err(ParseRefusal::NoMemory),
+    }
+}
+
+/// Where the token with this many tokens before it starts; where none is left, the length of the text.
+fn offset_at(text: &[u8], starts: &[usize], place: usize) -> usize
+    ensures { result ≡ offset_of_place text.now starts.now place }
+{
+    match starts.get(place) {
+        Some(start) => *start,
+        None => text.len(),
+    }
+}
