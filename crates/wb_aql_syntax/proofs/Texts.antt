@@ -5,14 +5,18 @@ use Rattle.std.proofs.lemmas.List.{take-append-drop}
 use Rattle.wb_aql_syntax.specs.Tree.{Tree}
 use Rattle.wb_aql_syntax.specs.Grammar.{Spells}
 use Rattle.wb_aql_syntax.specs.Places.{IsSyntax, IsTooDeep}
+use Rattle.wb_aql_syntax.specs.Lexes.{Lexes}
 use Rattle.wb_aql_syntax.specs.Expressions.{SpellsText, IsOffset, offset_at}
 use Rattle.wb_aql_syntax.specs.declared.token.Token.{Token}
 use Rattle.wb_aql_syntax.proofs.OneLexing.{one_text}
 use Rattle.wb_aql_syntax.proofs.Unique.{unambiguous, one_syntax, one_deep, never_both}
 
+-- the tokens of the text spell what it spells
+pub text_spells : {text : List ℕ} {tokens : List Token} {starts : List ℕ} {x : Tree} → Lexes 0 text tokens starts → SpellsText text x → Spells 64 4 tokens x
+text_spells {x = x} lexes a = subst (λ z. Spells 64 4 z x) (sym (one_text lexes a.tokens a.starts a.lexes).0) a.spells
+
 pub text_tree : (text : List ℕ) (x y : Tree) → SpellsText text x → SpellsText text y → x ≡ y
-text_tree text x y a b = let u = one_text a.lexes b.tokens b.starts b.lexes in
-    unambiguous 64 4 64 4 a.tokens x y a.spells (subst (λ z. Spells 64 4 z y) (sym u.0) b.spells)
+text_tree text x y a b = unambiguous 64 4 64 4 a.tokens x y a.spells (text_spells a.lexes b)
 
 -- one place of the tokens is one offset of the text
 one_offset : (IsPlace : List Token → ℕ → Type 0) → ((tokens : List Token) (p q : ℕ) → IsPlace tokens p → IsPlace tokens q → p ≡ q) →
@@ -44,9 +48,7 @@ no_depth tokens x place spells deep =
     deep.stops (record { more = deep.behind; tree = x; spells = subst (λ z. Spells 64 4 z x) split spells })
 
 pub text_no_syntax : (text : List ℕ) (x : Tree) (p : ℕ) → SpellsText text x → IsOffset (IsSyntax 64 4) text p → ⊥
-text_no_syntax text x p a b = let u = one_text a.lexes b.tokens b.starts b.lexes in
-    no_syntax b.tokens x b.place (subst (λ z. Spells 64 4 z x) u.0 a.spells) b.is
+text_no_syntax text x p a b = no_syntax b.tokens x b.place (text_spells b.lexes a) b.is
 
 pub text_no_depth : (text : List ℕ) (x : Tree) (p : ℕ) → SpellsText text x → IsOffset (IsTooDeep 64 4) text p → ⊥
-text_no_depth text x p a b = let u = one_text a.lexes b.tokens b.starts b.lexes in
-    no_depth b.tokens x b.place (subst (λ z. Spells 64 4 z x) u.0 a.spells) b.is
+text_no_depth text x p a b = no_depth b.tokens x b.place (text_spells b.lexes a) b.is

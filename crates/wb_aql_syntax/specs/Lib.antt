@@ -1,4 +1,5 @@
 pub mod Answers
+pub mod Codes
 pub mod Expressions
 pub mod Reading
 pub mod Places

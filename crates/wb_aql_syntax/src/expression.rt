@@ -15,8 +15,11 @@ impl Model for Expr {
     ghost use Rattle.wb_aql_syntax.specs.Tree.{Tree};
     ghost use Rattle.wb_aql_syntax.specs.View.{tree_of};
     ghost use Rattle.wb_aql_syntax.specs.Expressions.{IsExpression};
+    ghost use Rattle.wb_aql_syntax.specs.Codes.{coded_tree};
 
     ghost Value = { Tree };
+
+    ghost coded = { coded_tree };
 
     ghost view = { λ e. tree_of e.node };
 
