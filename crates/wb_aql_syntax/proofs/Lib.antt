@@ -1,3 +1,10 @@
+pub mod Words
+pub mod Spellings
+pub mod Next
+pub mod Pieces
+pub mod Lexing
+pub mod Apart
+pub mod OneLexing
 pub mod Languages
 pub mod Ranks
 pub mod Local
@@ -8,3 +15,9 @@ pub mod Whole
 pub mod Nodes
 pub mod Steps
 pub mod Unique
+pub mod Measures
+pub mod Shorter
+pub mod Parts
+pub mod Picks
+pub mod Growing
+pub mod Texts

@@ -2,14 +2,38 @@
 #![tactic(auto)]
 
 mod arguments;
+mod atom;
+mod characters;
 mod expr;
+mod expression;
 mod laws;
 mod level;
+mod lexer;
+mod lexer_laws;
+mod parser;
+mod parsing;
+mod postfix;
+mod quotes;
 mod reading;
+mod refusal;
+mod signs;
+mod spelled;
 mod stop;
+mod text_laws;
 mod token;
 
 pub use expr::{Argument, Binary, CallKind, CollectionKind, Constant, Node, Unary};
+pub use expression::Expr;
 pub use laws::{one_place_of_depth, one_place_of_syntax, one_refusal, one_tree};
+pub use lexer::{Lexed, tokens_of};
+pub use lexer_laws::{
+    each_token_starts, one_lexing, token_stands_behind_space, token_stands_first, tokens_are_within,
+};
+pub use parsing::parse;
+pub use refusal::ParseRefusal;
+pub use text_laws::{
+    one_depth_of_text, one_refusal_of_text, one_syntax_error_of_text, one_tree_of_text,
+    spelled_is_not_refused,
+};
 pub use token::{Sign, Token};
 pub use wb_base::Text;
