@@ -8,3 +8,4 @@ pub mod Whole
 pub mod Nodes
 pub mod Steps
 pub mod Unique
+pub mod Spelled

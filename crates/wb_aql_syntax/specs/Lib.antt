@@ -4,3 +4,4 @@ pub mod Runs
 pub mod Grammar
 pub mod Tree
 pub mod View
+pub mod Canonical

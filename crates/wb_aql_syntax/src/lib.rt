@@ -7,6 +7,7 @@ mod laws;
 mod level;
 mod reading;
 mod stop;
+mod tightness;
 mod token;
 
 pub use expr::{Argument, Binary, CallKind, CollectionKind, Constant, Node, Unary};
