@@ -14,6 +14,7 @@ use Rattle.wb_aql_syntax.specs.declared.expr.Constant.TheVariants as c
 use Rattle.wb_aql_syntax.specs.declared.expr.CollectionKind.{CollectionKind}
 use Rattle.wb_aql_syntax.specs.declared.expr.CollectionKind.TheVariants as k
 use Rattle.wb_aql_syntax.specs.declared.expr.Unary.TheVariants as u
+use Rattle.wb_aql_syntax.specs.declared.expr.Binary.{Binary as BinaryOperator}
 use Rattle.wb_aql_syntax.specs.declared.expr.Binary.TheVariants as b
 use Rattle.wb_aql_syntax.specs.declared.expr.CallKind.{CallKind}
 use Rattle.wb_aql_syntax.specs.declared.expr.CallKind.TheVariants as d
@@ -235,13 +236,21 @@ right_most a b n h = omega (arith, h, le-max_right a b)
 
 -- ---- binary operators
 
-chained : (n l : ℕ) (p q : Tightness) (a : SignName) (x y xy : Tree) (px py : List Piece) → Begun n l p x px →
-    ((mid : List Token) → Reads n l (last (phrase_at q)) (before py mid) mid y) →
-    ((text mid rest : List Token) (z : Tree) → Reads n l (last (phrase_at q)) text mid y → Reads n l (follow p xy) mid rest z → Reads n l (follow p x) (Sign a ∷ text) rest z) →
-    Begun n l p xy (px ++ (apart a ++ py))
-chained n l p q a x y xy px py begun right step mid rest z d =
-    subst (λ w. Reads n l (last (phrase_at p)) w rest z) (sym (before_append px (apart a ++ py) mid))
-    (begun (Sign a ∷ before py mid) rest z (step (before py mid) mid rest z (right mid) d))
+-- the pieces of the operands, where they stand
+abbrev left_pieces : BinaryOperator → Tree → List Piece
+left_pieces o x = standing (left_of o) x (pieces x)
+
+abbrev right_pieces : BinaryOperator → Tree → List Piece
+right_pieces o y = standing (right_of o) y (pieces y)
+
+chained : (n l : ℕ) (o : BinaryOperator) (x y : Tree) → Begun n l (left_of o) x (left_pieces o x) →
+    ((mid : List Token) → Reads n l (last (phrase_at (right_of o))) (before (right_pieces o y) mid) mid y) →
+    ((text mid rest : List Token) (z : Tree) → Reads n l (last (phrase_at (right_of o))) text mid y → Reads n l (follow (left_of o) (t.Binary o x y)) mid rest z →
+    Reads n l (follow (left_of o) x) (Sign (sign_of o) ∷ text) rest z) →
+    Begun n l (left_of o) (t.Binary o x y) (left_pieces o x ++ (apart (sign_of o) ++ right_pieces o y))
+chained n l o x y begun right step mid rest z d =
+    subst (λ w. Reads n l (last (phrase_at (left_of o))) w rest z) (sym (before_append (left_pieces o x) (apart (sign_of o) ++ right_pieces o y) mid))
+    (begun (Sign (sign_of o) ∷ before (right_pieces o y) mid) rest z (step (before (right_pieces o y) mid) mid rest z (right mid) d))
 
 compared : (n l : ℕ) (a : SignName) (x y xy : Tree) (px py : List Piece) →
     ((mid : List Token) → Reads n l (last Sum) (before px mid) mid x) →
@@ -357,3 +366,173 @@ called n l d.Dot x v xs ps mid rest z at_xs e =
     reads_phrase g.dot (reads_sign (reads_name (reads_phrase g.dot_call (reads_opening takes_opening (bracketed n l (CallArguments d.Dot x v) s.Close ps (t.Call d.Dot x v xs) mid at_xs) e) reads_done))) reads_done
 called n l d.Arrow x v xs ps mid rest z at_xs e =
     reads_phrase g.arrow (reads_sign (reads_name (reads_opening takes_opening (bracketed n l (CallArguments d.Arrow x v) s.Close ps (t.Call d.Arrow x v xs) mid at_xs) e))) reads_done
+
+-- ---- every tree
+
+-- the elements, or the arguments, that follow some
+abbrev MoreElements : Trees → Type 0
+MoreElements xs = (n l : ℕ) → element_openings xs ≤ n → element_lambdas xs ≤ l → (k : CollectionKind) (ys : Trees) (mid : List Token) →
+    ReadsTo n l (ElementMore k ys) (element_pieces true xs) mid (t.Collection k (joined ys xs))
+
+abbrev MoreArguments : Arguments → Type 0
+MoreArguments xs = (n l : ℕ) → argument_openings xs ≤ n → argument_lambdas xs ≤ l → (d : CallKind) (r : Tree) (v : List ℕ) (ys : Arguments) (mid : List Token) →
+    ReadsTo n l (ArgumentMore d r v ys) (argument_pieces true xs) mid (t.Call d r v (added ys xs))
+
+-- all of them
+abbrev AllElements : Trees → Type 0
+AllElements xs = (n l : ℕ) → element_openings xs ≤ n → element_lambdas xs ≤ l → (k : CollectionKind) (mid : List Token) →
+    ReadsTo n l (Elements k) (element_pieces false xs) mid (t.Collection k xs)
+
+abbrev AllArguments : Arguments → Type 0
+AllArguments xs = (n l : ℕ) → argument_openings xs ≤ n → argument_lambdas xs ≤ l → (d : CallKind) (r : Tree) (v : List ℕ) (mid : List Token) →
+    ReadsTo n l (CallArguments d r v) (argument_pieces false xs) mid (t.Call d r v xs)
+
+module _ (n l : ℕ) (o : BinaryOperator) (x y : Tree) (below : openings_of (t.Binary o x y) ≤ n) (within : lambdas_of (t.Binary o x y) ≤ l) (at_x : Bare x) (at_y : Bare y) where
+  left_begun : Begun n l (left_of o) x (left_pieces o x)
+  unfolding openings_of lambdas_of
+  left_begun = placed (left_of o) x at_x n l (left_most _ _ n below) (left_most _ _ l within)
+
+  left_whole : (mid : List Token) → ReadsTo n l (phrase_at (left_of o)) (left_pieces o x) mid x
+  unfolding openings_of lambdas_of
+  left_whole = wanted (left_of o) x at_x n l (left_most _ _ n below) (left_most _ _ l within)
+
+  right_whole : (mid : List Token) → ReadsTo n l (phrase_at (right_of o)) (right_pieces o y) mid y
+  unfolding openings_of lambdas_of
+  right_whole = wanted (right_of o) y at_y n l (right_most _ _ n below) (right_most _ _ l within)
+
+
+binary : (o : BinaryOperator) (x y : Tree) → Bare x → Bare y → Bare (t.Binary o x y)
+unfolding pieces openings_of lambdas_of
+binary b.Implies x y at_x at_y n l h k = chained n l b.Implies x y
+    (left_begun n l b.Implies x y h k at_x at_y) (right_whole n l b.Implies x y h k at_x at_y)
+    (λ text mid rest z e d. reads_phrase g.implies_more (reads_sign (join e d)) reads_done)
+binary b.Or x y at_x at_y n l h k = chained n l b.Or x y
+    (left_begun n l b.Or x y h k at_x at_y) (right_whole n l b.Or x y h k at_x at_y)
+    (λ text mid rest z e d. reads_phrase g.or_more (reads_sign (join e d)) reads_done)
+binary b.Xor x y at_x at_y n l h k = chained n l b.Xor x y
+    (left_begun n l b.Xor x y h k at_x at_y) (right_whole n l b.Xor x y h k at_x at_y)
+    (λ text mid rest z e d. reads_phrase g.xor_more (reads_sign (join e d)) reads_done)
+binary b.And x y at_x at_y n l h k = chained n l b.And x y
+    (left_begun n l b.And x y h k at_x at_y) (right_whole n l b.And x y h k at_x at_y)
+    (λ text mid rest z e d. reads_phrase g.and_more (reads_sign (join e d)) reads_done)
+binary b.Equal x y at_x at_y n l h k = compared n l s.Equal x y (t.Binary b.Equal x y) (left_pieces b.Equal x) (right_pieces b.Equal y)
+    (left_whole n l b.Equal x y h k at_x at_y) (right_whole n l b.Equal x y h k at_x at_y)
+    (λ text mid e. reads_phrase g.equal (reads_sign (join e reads_done)) reads_done)
+binary b.NotEqual x y at_x at_y n l h k = compared n l s.NotEqual x y (t.Binary b.NotEqual x y) (left_pieces b.NotEqual x) (right_pieces b.NotEqual y)
+    (left_whole n l b.NotEqual x y h k at_x at_y) (right_whole n l b.NotEqual x y h k at_x at_y)
+    (λ text mid e. reads_phrase g.not_equal (reads_sign (join e reads_done)) reads_done)
+binary b.Less x y at_x at_y n l h k = compared n l s.Less x y (t.Binary b.Less x y) (left_pieces b.Less x) (right_pieces b.Less y)
+    (left_whole n l b.Less x y h k at_x at_y) (right_whole n l b.Less x y h k at_x at_y)
+    (λ text mid e. reads_phrase g.less (reads_sign (join e reads_done)) reads_done)
+binary b.LessEqual x y at_x at_y n l h k = compared n l s.LessEqual x y (t.Binary b.LessEqual x y) (left_pieces b.LessEqual x) (right_pieces b.LessEqual y)
+    (left_whole n l b.LessEqual x y h k at_x at_y) (right_whole n l b.LessEqual x y h k at_x at_y)
+    (λ text mid e. reads_phrase g.less_equal (reads_sign (join e reads_done)) reads_done)
+binary b.Greater x y at_x at_y n l h k = compared n l s.Greater x y (t.Binary b.Greater x y) (left_pieces b.Greater x) (right_pieces b.Greater y)
+    (left_whole n l b.Greater x y h k at_x at_y) (right_whole n l b.Greater x y h k at_x at_y)
+    (λ text mid e. reads_phrase g.greater (reads_sign (join e reads_done)) reads_done)
+binary b.GreaterEqual x y at_x at_y n l h k = compared n l s.GreaterEqual x y (t.Binary b.GreaterEqual x y) (left_pieces b.GreaterEqual x) (right_pieces b.GreaterEqual y)
+    (left_whole n l b.GreaterEqual x y h k at_x at_y) (right_whole n l b.GreaterEqual x y h k at_x at_y)
+    (λ text mid e. reads_phrase g.greater_equal (reads_sign (join e reads_done)) reads_done)
+binary b.Add x y at_x at_y n l h k = chained n l b.Add x y
+    (left_begun n l b.Add x y h k at_x at_y) (right_whole n l b.Add x y h k at_x at_y)
+    (λ text mid rest z e d. reads_phrase g.plus (reads_sign (join e d)) reads_done)
+binary b.Subtract x y at_x at_y n l h k = chained n l b.Subtract x y
+    (left_begun n l b.Subtract x y h k at_x at_y) (right_whole n l b.Subtract x y h k at_x at_y)
+    (λ text mid rest z e d. reads_phrase g.minus (reads_sign (join e d)) reads_done)
+binary b.Multiply x y at_x at_y n l h k = chained n l b.Multiply x y
+    (left_begun n l b.Multiply x y h k at_x at_y) (right_whole n l b.Multiply x y h k at_x at_y)
+    (λ text mid rest z e d. reads_phrase g.times (reads_sign (join e d)) reads_done)
+binary b.Divide x y at_x at_y n l h k = chained n l b.Divide x y
+    (left_begun n l b.Divide x y h k at_x at_y) (right_whole n l b.Divide x y h k at_x at_y)
+    (λ text mid rest z e d. reads_phrase g.div (reads_sign (join e d)) reads_done)
+
+mutual
+  unfolding pieces openings_of lambdas_of
+  bare : (x : Tree) → Bare x
+  bare (t.Integer i) n l h k mid rest z d = reads_phrase g.integer (reads_sign reads_done) d
+  bare (t.Text v) n l h k mid rest z d = reads_phrase g.text (reads_sign reads_done) d
+  bare (t.Const c.Null) n l h k mid rest z d = reads_phrase g.null (reads_sign reads_done) d
+  bare (t.Const c.True) n l h k mid rest z d = reads_phrase g.true (reads_sign reads_done) d
+  bare (t.Const c.False) n l h k mid rest z d = reads_phrase g.false (reads_sign reads_done) d
+  bare (t.Variable v) n l h k mid rest z d = reads_phrase g.named (reads_name (reads_phrase g.variable reads_done reads_done)) d
+  bare (t.Literal p e v) n l h k mid rest z d = reads_phrase g.named (reads_name (reads_phrase g.literal (reads_sign (reads_name (reads_sign (reads_name reads_done)))) reads_done)) d
+  bare (t.Collection k.Sequence xs) zero l h i mid rest z d = absurd (omega (arith, h))
+  bare (t.Collection k.Sequence xs) (suc n) l h i mid rest z d =
+      reads_phrase g.sequence (reads_sign (reads_opening takes_opening (bracketed n l (Elements k.Sequence) s.CloseBrace (element_pieces false xs) (t.Collection k.Sequence xs) mid (elements xs n l (omega (arith, h)) i k.Sequence)) reads_done)) d
+  bare (t.Collection k.OrderedSet xs) zero l h i mid rest z d = absurd (omega (arith, h))
+  bare (t.Collection k.OrderedSet xs) (suc n) l h i mid rest z d =
+      reads_phrase g.ordered_set (reads_sign (reads_opening takes_opening (bracketed n l (Elements k.OrderedSet) s.CloseBrace (element_pieces false xs) (t.Collection k.OrderedSet xs) mid (elements xs n l (omega (arith, h)) i k.OrderedSet)) reads_done)) d
+  bare (t.Unary u.Not x) zero l h k mid rest z d = absurd (omega (arith, h))
+  bare (t.Unary u.Not x) (suc n) l h k mid rest z d =
+      reads_phrase g.not (reads_opening takes_opening (join (wanted at.Neg x (bare x) n l (omega (arith, h)) k mid) reads_done) reads_done) d
+  bare (t.Unary u.Negate x) zero l h k mid rest z d = absurd (omega (arith, h))
+  bare (t.Unary u.Negate x) (suc n) l h k mid rest z d =
+      reads_phrase g.negate (reads_opening takes_opening (join (wanted at.Unary x (bare x) n l (omega (arith, h)) k mid) reads_done) reads_done) d
+  bare (t.Binary o x y) n l h k mid rest z d = binary o x y (bare x) (bare y) n l h k mid rest z d
+  bare (t.If x y z) zero l h k mid rest w d = absurd (omega (arith, h))
+  bare (t.If x y z) (suc n) l h k mid rest w d =
+      let below : max (openings_of x) (max (openings_of y) (openings_of z)) ≤ n = omega (arith, h) in
+      reads_phrase g.if (reads_opening takes_opening (if_inside n l x y z (pieces x) (pieces y) (pieces z) mid
+      (anywhere x (bare x) n l (left_most _ _ n below) (left_most _ _ l k))
+      (anywhere y (bare y) n l (left_most _ _ n (right_most _ _ n below)) (left_most _ _ l (right_most _ _ l k)))
+      (anywhere z (bare z) n l (right_most _ _ n (right_most _ _ n below)) (right_most _ _ l (right_most _ _ l k)))) reads_done) d
+  bare (t.Let v x y) zero l h k mid rest w d = absurd (omega (arith, h))
+  bare (t.Let v x y) (suc n) l h k mid rest w d =
+      let below : max (openings_of x) (openings_of y) ≤ n = omega (arith, h) in
+      reads_phrase g.let_in (reads_opening takes_opening (reads_name (reads_sign (let_inside n l v x y (pieces x) (pieces y) mid
+      (anywhere x (bare x) n l (left_most _ _ n below) (left_most _ _ l k))
+      (anywhere y (bare y) n l (right_most _ _ n below) (right_most _ _ l k))))) reads_done) d
+  bare (t.Feature x v) n l h k mid rest z d =
+      subst (λ w. Reads n l (last Post) w rest z) (sym (before_append (standing at.Post x (pieces x)) (mark s.Dot ∷ token (Name v) ∷ []) mid))
+      (placed at.Post x (bare x) n l h k (Sign s.Dot ∷ Name v ∷ mid) rest z
+      (reads_phrase g.dot (reads_sign (reads_name (reads_phrase g.feature d reads_done))) reads_done))
+  bare (t.Call o x v xs) zero l h k mid rest z d = absurd (omega (arith, right_most _ _ zero h))
+  bare (t.Call o x v xs) (suc n) l h k mid rest z d =
+      subst (λ w. Reads (suc n) l (last Post) w rest z) (sym (before_append (standing at.Post x (pieces x)) _ mid))
+      (placed at.Post x (bare x) (suc n) l (left_most _ _ (suc n) h) (left_most _ _ l k) (Sign (link_of o) ∷ Name v ∷ Sign s.Open ∷ before (argument_pieces false xs ++ (mark s.Close ∷ [])) mid) rest z
+      (called n l o x v xs (argument_pieces false xs) mid rest z (arguments xs n l (omega (arith, right_most _ _ (suc n) h)) (right_most _ _ l k) o x v) d))
+
+  elements : (xs : Trees) → AllElements xs
+  elements no_trees n l h i k mid = reads_phrase g.no_element reads_done reads_done
+  elements (trees x xs) n l h i k mid =
+      reads_phrase g.first_element (read_element n l k no_trees x (element_pieces true xs) mid (t.Collection k (trees x xs)) (anywhere x (bare x)) (left_most _ _ n h) (left_most _ _ l i)
+      (subst (λ w. ReadsTo n l (ElementMore k (trees x no_trees)) (element_pieces true xs) mid (t.Collection k w)) (joined_all (trees x xs))
+      (more_elements xs n l (right_most _ _ n h) (right_most _ _ l i) k (trees x no_trees) mid))) reads_done
+
+  more_elements : (xs : Trees) → MoreElements xs
+  more_elements no_trees n l h i k ys mid = reads_phrase g.elements_end reads_done reads_done
+  more_elements (trees x xs) n l h i k ys mid =
+      reads_phrase g.next_element (reads_sign (read_element n l k ys x (element_pieces true xs) mid (t.Collection k (joined (with_tree ys x) xs)) (anywhere x (bare x)) (left_most _ _ n h) (left_most _ _ l i)
+      (more_elements xs n l (right_most _ _ n h) (right_most _ _ l i) k (with_tree ys x) mid))) reads_done
+
+  arguments : (xs : Arguments) → AllArguments xs
+  arguments no_arguments n l h i d r v mid = reads_phrase g.no_argument reads_done reads_done
+  arguments (lambda w x xs) n l h i d r v mid =
+      reads_phrase g.first_argument (read_lambda n l d r v no_arguments w x (argument_pieces true xs) mid (t.Call d r v (lambda w x xs)) (anywhere x (bare x)) (left_most _ _ n h) (left_most _ _ l i)
+      (subst (λ e. ReadsTo n l (ArgumentMore d r v (lambda w x no_arguments)) (argument_pieces true xs) mid (t.Call d r v e)) (added_all (lambda w x xs))
+      (more_arguments xs n l (right_most _ _ n h) (right_most _ _ l i) d r v (lambda w x no_arguments) mid))) reads_done
+  arguments (type_named p c xs) n l h i d r v mid =
+      reads_phrase g.first_argument (read_type n l d r v no_arguments p c (argument_pieces true xs) mid (t.Call d r v (type_named p c xs))
+      (subst (λ e. ReadsTo n l (ArgumentMore d r v (type_named p c no_arguments)) (argument_pieces true xs) mid (t.Call d r v e)) (added_all (type_named p c xs))
+      (more_arguments xs n l h i d r v (type_named p c no_arguments) mid))) reads_done
+  arguments (expression x xs) n l h i d r v mid =
+      reads_phrase g.first_argument (read_expression n l d r v no_arguments x (argument_pieces true xs) mid (t.Call d r v (expression x xs)) (anywhere x (bare x)) (left_most _ _ n h) (left_most _ _ l i)
+      (subst (λ e. ReadsTo n l (ArgumentMore d r v (expression x no_arguments)) (argument_pieces true xs) mid (t.Call d r v e)) (added_all (expression x xs))
+      (more_arguments xs n l (right_most _ _ n h) (right_most _ _ l i) d r v (expression x no_arguments) mid))) reads_done
+
+  more_arguments : (xs : Arguments) → MoreArguments xs
+  more_arguments no_arguments n l h i d r v ys mid = reads_phrase g.arguments_end reads_done reads_done
+  more_arguments (lambda w x xs) n l h i d r v ys mid =
+      reads_phrase g.next_argument (reads_sign (read_lambda n l d r v ys w x (argument_pieces true xs) mid _ (anywhere x (bare x)) (left_most _ _ n h) (left_most _ _ l i)
+      (more_arguments xs n l (right_most _ _ n h) (right_most _ _ l i) d r v (with_lambda ys w x) mid))) reads_done
+  more_arguments (type_named p c xs) n l h i d r v ys mid =
+      reads_phrase g.next_argument (reads_sign (read_type n l d r v ys p c (argument_pieces true xs) mid _ (more_arguments xs n l h i d r v (with_type ys p c) mid))) reads_done
+  more_arguments (expression x xs) n l h i d r v ys mid =
+      reads_phrase g.next_argument (reads_sign (read_expression n l d r v ys x (argument_pieces true xs) mid _ (anywhere x (bare x)) (left_most _ _ n h) (left_most _ _ l i)
+      (more_arguments xs n l (right_most _ _ n h) (right_most _ _ l i) d r v (with_expression ys x) mid))) reads_done
+
+same_bound : (n : ℕ) → n ≤ n
+same_bound n = omega arith
+
+pub spelled : (x : Tree) → Spells (openings_of x) (lambdas_of x) (canon x) x
+spelled x = subst (λ w. Spells (openings_of x) (lambdas_of x) w x) (before_nothing (pieces x)) (anywhere x (bare x) (openings_of x) (lambdas_of x) (same_bound (openings_of x)) (same_bound (lambdas_of x)) [])

@@ -5,3 +5,4 @@ pub mod Grammar
 pub mod Tree
 pub mod View
 pub mod Canonical
+pub mod Lexes
