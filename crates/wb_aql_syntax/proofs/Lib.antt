@@ -9,3 +9,4 @@ pub mod Nodes
 pub mod Steps
 pub mod Unique
 pub mod Spelled
+pub mod Sizes

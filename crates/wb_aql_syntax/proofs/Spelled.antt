@@ -228,10 +228,10 @@ wanted p x s n l h k mid = whole n l x (standing p x (pieces x)) p (placed p x s
 
 -- ---- bounds
 
-left_most : (a b n : ℕ) → max a b ≤ n → a ≤ n
+pub left_most : (a b n : ℕ) → max a b ≤ n → a ≤ n
 left_most a b n h = omega (arith, h, le-max_left a b)
 
-right_most : (a b n : ℕ) → max a b ≤ n → b ≤ n
+pub right_most : (a b n : ℕ) → max a b ≤ n → b ≤ n
 right_most a b n h = omega (arith, h, le-max_right a b)
 
 -- ---- binary operators
