@@ -10,3 +10,4 @@ pub mod Steps
 pub mod Unique
 pub mod Spelled
 pub mod Sizes
+pub mod Least

@@ -5,6 +5,7 @@ mod arguments;
 mod expr;
 mod laws;
 mod level;
+mod printing_laws;
 mod reading;
 mod stop;
 mod tightness;
@@ -12,5 +13,8 @@ mod token;
 
 pub use expr::{Argument, Binary, CallKind, CollectionKind, Constant, Node, Unary};
 pub use laws::{one_place_of_depth, one_place_of_syntax, one_refusal, one_tree};
+pub use printing_laws::{
+    canonical_is_shallowest, canonical_is_shortest, canonical_spells, canonical_tells_trees_apart,
+};
 pub use token::{Sign, Token};
 pub use wb_base::Text;
