@@ -11,3 +11,4 @@ pub mod Unique
 pub mod Spelled
 pub mod Sizes
 pub mod Least
+pub mod Trees

@@ -2,8 +2,8 @@
 use Rattle.std.specs.Prelude.{◌≡◌, ℕ, suc, ◌+◌, ◌&&◌, ◌||◌, ◌==◌, nat_eq, nat_le, not, Bool, true, false, List, [], ◌∷◌, ◌++◌, length, find, Option, Some, option_map, codes, bytes_eq}
 use Rattle.std.specs.Char.{is_ascii_alphabetic, is_ascii_alphanumeric}
 use Rattle.std.specs.List.{list_all, list_any}
-use Rattle.std.specs.Str.{byte, is_utf8, all_ascii_digits}
-use Rattle.std.specs.Str.Parse.{digits_value}
+use Rattle.std.specs.Str.{byte, is_utf8}
+use Rattle.std.specs.Str.Parse.{IsNumeral, digits_value}
 use Rattle.wb_aql_syntax.specs.declared.token.Token.{Token}
 use Rattle.wb_aql_syntax.specs.declared.token.Token.TheVariants.{Sign, Name, Integer, Quoted, Bad}
 use Rattle.wb_aql_syntax.specs.declared.token.Sign.{Sign as SignName}
@@ -74,10 +74,6 @@ is_name bytes = nat_le (length bytes) 64 && starts_name bytes && list_all is_nam
 
 -- ---- integers
 
--- a run of digits
-unfoldable pub is_digits : List ℕ → Bool
-is_digits bytes = not (length bytes == 0) && all_ascii_digits bytes
-
 abbrev pub largest_integer : ℕ
 largest_integer = 9223372036854775807
 
@@ -117,7 +113,7 @@ is_quotable value = nat_le (length value) 65536 && is_utf8 value
 abbrev pub Spelling : Token → List ℕ → Type 0
 Spelling (Sign sign) bytes = bytes ≡ word_of sign
 Spelling (Name name) bytes = (bytes ≡ name) × (is_name name ≡ true)
-Spelling (Integer n) bytes = (n ≡ digits_value 10 bytes) × (is_digits bytes ≡ true)
+Spelling (Integer n) bytes = IsNumeral 10 bytes × (n ≡ digits_value 10 bytes)
 Spelling (Quoted value) bytes = Quotes value bytes × (is_quotable value ≡ true)
 Spelling Bad bytes = ⊥
 

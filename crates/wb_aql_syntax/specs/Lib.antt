@@ -6,3 +6,4 @@ pub mod Tree
 pub mod View
 pub mod Canonical
 pub mod Lexes
+pub mod Printed

@@ -5,14 +5,18 @@ mod arguments;
 mod expr;
 mod laws;
 mod level;
+mod printer;
 mod printing_laws;
 mod reading;
 mod stop;
 mod tightness;
 mod token;
+mod words;
+mod writer;
 
 pub use expr::{Argument, Binary, CallKind, CollectionKind, Constant, Node, Unary};
 pub use laws::{one_place_of_depth, one_place_of_syntax, one_refusal, one_tree};
+pub use printer::print;
 pub use printing_laws::{
     canonical_is_shallowest, canonical_is_shortest, canonical_spells, canonical_tells_trees_apart,
 };

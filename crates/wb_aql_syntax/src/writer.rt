@@ -1,0 +1,84 @@
+ghost use Rattle.std.specs.Prelude.{◌≡◌, ◌++◌, ◌∷◌, [], OnOk, string_bytes};
+ghost use Rattle.std.specs.List.{flat_map};
+ghost use Rattle.std.specs.Char.{encode_utf8};
+ghost use Rattle.wb_aql_syntax.specs.Canonical.{apart, comma_if, mark, token as token_piece};
+ghost use Rattle.wb_aql_syntax.specs.Printed.{bytes_in, escaped};
+ghost use Rattle.wb_aql_syntax.specs.declared.token.Token.TheVariants.{Name as name_token, Integer as integer_token, Quoted as quoted_token};
+
+use crate::token::Sign;
+use crate::words::word;
+use std::alloc::AllocError;
+use wb_base::Text;
+
+/// Writes a sign or a word.
+pub fn write_sign(out: &mut String, sign: Sign) -> Result<(), AllocError>
+    ensures { OnOk result (string_bytes out.new ≡ string_bytes out.old ++ bytes_in (mark sign ∷ [])) }
+{
+    out.push_str(word(sign))
+}
+
+/// Writes a sign or a word with a space on either side.
+pub fn write_apart(out: &mut String, sign: Sign) -> Result<(), AllocError>
+    ensures { OnOk result (string_bytes out.new ≡ string_bytes out.old ++ bytes_in (apart sign)) }
+{
+    out.push_str(" ")?;
+    out.push_str(word(sign))?;
+    out.push_str(" ")
+}
+
+/// Writes what stands before an element: a comma, if others stand before it.
+#[tactic(auto, unfolding(crate::specs::Lexes::word_of))]
+pub fn write_comma(out: &mut String, later: bool) -> Result<(), AllocError>
+    ensures { OnOk result (string_bytes out.new ≡ string_bytes out.old ++ bytes_in (comma_if later)) }
+{
+    if later {
+        return out.push_str(", ");
+    }
+    Ok(())
+}
+
+/// Writes a name.
+pub fn write_name(out: &mut String, name: &Text) -> Result<(), AllocError>
+    ensures { OnOk result (string_bytes out.new ≡ string_bytes out.old ++ bytes_in (token_piece (name_token name.now) ∷ [])) }
+{
+    out.push_str(name.as_str())
+}
+
+/// Writes an integer in decimal digits.
+pub fn write_integer(out: &mut String, value: u64) -> Result<(), AllocError>
+    ensures { OnOk result (string_bytes out.new ≡ string_bytes out.old ++ bytes_in (token_piece (integer_token value) ∷ [])) }
+{
+    write!(out, "{value}")
+}
+
+/// Writes a text in quotes.
+pub fn write_quoted(out: &mut String, text: &Text) -> Result<(), AllocError>
+    ensures { OnOk result (string_bytes out.new ≡ string_bytes out.old ++ bytes_in (token_piece (quoted_token text.now) ∷ [])) }
+{
+    out.push_str("'")?;
+    write_escaped(out, text.as_str())?;
+    out.push_str("'")
+}
+
+/// Writes a text, its quotes, backslashes, line feeds and tabs behind a `\`.
+fn write_escaped(out: &mut String, text: &str) -> Result<(), AllocError>
+    ensures { OnOk result (string_bytes out.new ≡ string_bytes out.old ++ flat_map escaped text.now) }
+{
+    for c in text.chars() {
+        write_char(out, c)?;
+    }
+    Ok(())
+}
+
+/// Writes a character, behind a `\` where it needs one.
+fn write_char(out: &mut String, c: char) -> Result<(), AllocError>
+    ensures { OnOk result (string_bytes out.new ≡ string_bytes out.old ++ flat_map escaped (encode_utf8 c)) }
+{
+    match c {
+        '\\' => out.push_str("\\\\"),
+        '\'' => out.push_str("\\'"),
+        '\n' => out.push_str("\\n"),
+        '\t' => out.push_str("\\t"),
+        _ => out.push(c),
+    }
+}
