@@ -12,3 +12,6 @@ pub mod Spelled
 pub mod Sizes
 pub mod Least
 pub mod Trees
+pub mod Writing
+pub mod Weights
+pub mod Escapes

@@ -1,5 +1,6 @@
 -- The canonical spelling of a tree in bytes.
-use Rattle.std.specs.Prelude.{◌≡◌, ℕ, ◌==◌, Bool, true, List, [], ◌∷◌, ◌++◌, Option, Some, None, codes, find}
+use Rattle.std.specs.Prelude.{◌≡◌, ℕ, ◌==◌, Bool, true, List, [], ◌∷◌, ◌++◌, Option, Some, None, codes, find, String, string_bytes}
+use Rattle.std.specs.declared.alloc.Global.{Global}
 use Rattle.std.specs.Fmt.{decimal}
 use Rattle.std.specs.List.{flat_map, list_all}
 use Rattle.std.specs.Str.{byte}
@@ -29,12 +30,16 @@ abbrev pub piece_bytes : Piece → List ℕ
 piece_bytes blank = codes " "
 piece_bytes (token a) = bytes_of a
 
-abbrev pub bytes_in : List Piece → List ℕ
+unfoldable pub bytes_in : List Piece → List ℕ
 bytes_in pieces = flat_map piece_bytes pieces
 
 -- the canonical spelling
 abbrev pub printed : Tree → List ℕ
 printed x = bytes_in (pieces x)
+
+-- the text has these pieces more
+abbrev pub Wrote : String Global → List Piece → String Global → Type 0
+Wrote old pieces new = string_bytes new ≡ string_bytes old ++ bytes_in pieces
 
 -- Can the tree be written? Its names are names, its integers and texts not too large.
 abbrev pub is_writable : Tree → Bool

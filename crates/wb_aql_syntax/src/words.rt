@@ -1,9 +1,8 @@
 ghost use Rattle.std.specs.Prelude.{◌≡◌};
 ghost use Rattle.wb_aql_syntax.specs.Lexes.{word_of};
-ghost use Rattle.wb_aql_syntax.specs.Canonical.{sign_of, word_of_constant, word_of_kind, link_of, prefix};
-ghost use Rattle.wb_aql_syntax.specs.Printed.{bytes_in};
+ghost use Rattle.wb_aql_syntax.specs.Canonical.{sign_of, word_of_constant, word_of_kind, link_of};
 
-use crate::expr::{Binary, CallKind, CollectionKind, Constant, Unary};
+use crate::expr::{Binary, CallKind, CollectionKind, Constant};
 use crate::token::Sign;
 
 /// The text of a sign or a reserved word.
@@ -97,16 +96,5 @@ pub fn link_of(kind: CallKind) -> Sign
     match kind {
         CallKind::Dot => Sign::Dot,
         CallKind::Arrow => Sign::Arrow,
-    }
-}
-
-/// A prefix operator with what stands between it and its operand.
-#[tactic(auto, unfolding(crate::specs::Lexes::word_of))]
-pub fn prefix(operator: Unary) -> &'static str
-    ensures { result.now ≡ bytes_in (prefix operator) }
-{
-    match operator {
-        Unary::Not => "not ",
-        Unary::Negate => "-",
     }
 }
