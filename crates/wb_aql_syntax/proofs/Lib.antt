@@ -15,3 +15,4 @@ pub mod Trees
 pub mod Writing
 pub mod Weights
 pub mod Escapes
+pub mod Forms

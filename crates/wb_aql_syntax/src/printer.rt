@@ -74,6 +74,7 @@ fn write_bare(out: &mut String, e: &Node) -> Result<(), AllocError>
 }
 
 /// Writes an enumeration's literal.
+#[tactic(auto, unfolding(crate::specs::Canonical::pieces, crate::specs::Printed::bytes_in))]
 fn write_literal(
     out: &mut String,
     owner: &Text,
