@@ -1,3 +1,10 @@
+pub mod Words
+pub mod Spellings
+pub mod Next
+pub mod Pieces
+pub mod Lexing
+pub mod Apart
+pub mod OneLexing
 pub mod Languages
 pub mod Ranks
 pub mod Local

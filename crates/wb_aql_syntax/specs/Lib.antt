@@ -4,6 +4,8 @@ pub mod Runs
 pub mod Grammar
 pub mod Tree
 pub mod View
-pub mod Canonical
 pub mod Lexes
+pub mod Lexer
+pub mod Apart
+pub mod Canonical
 pub mod Printed
