@@ -12,11 +12,11 @@ mod printer;
 mod printing_laws;
 mod quotes;
 mod reading;
+mod sign_words;
 mod signs;
 mod stop;
 mod tightness;
 mod token;
-mod words;
 mod writer;
 
 pub use expr::{Argument, Binary, CallKind, CollectionKind, Constant, Node, Unary};

@@ -7,7 +7,7 @@ ghost use Rattle.wb_aql_syntax.specs.Printed.{printed, Wrote};
 use crate::expr::{Argument, Binary, CallKind, CollectionKind, Node};
 use crate::tightness::{Tightness, left_of, prefix_of, right_of, stands, tightness_of};
 use crate::token::Sign;
-use crate::words::{link_of, sign_of, word_of_constant, word_of_kind};
+use crate::sign_words::{link_of, sign_of, word_of_constant, word_of_kind};
 use crate::writer::{
     write_apart, write_blank, write_comma, write_integer, write_name, write_prefix, write_quoted,
     write_sign,

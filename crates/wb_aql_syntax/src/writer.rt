@@ -7,7 +7,7 @@ ghost use Rattle.wb_aql_syntax.specs.declared.token.Token.TheVariants.{Name as n
 
 use crate::expr::Unary;
 use crate::token::Sign;
-use crate::words::word;
+use crate::sign_words::word;
 use std::alloc::AllocError;
 use wb_base::Text;
 
