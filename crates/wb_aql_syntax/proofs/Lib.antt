@@ -23,3 +23,4 @@ pub mod Writing
 pub mod Weights
 pub mod Escapes
 pub mod Forms
+pub mod Touching
