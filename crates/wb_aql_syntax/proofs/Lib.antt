@@ -24,3 +24,4 @@ pub mod Weights
 pub mod Escapes
 pub mod Forms
 pub mod Touching
+pub mod Readable
