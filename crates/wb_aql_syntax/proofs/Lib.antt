@@ -25,3 +25,5 @@ pub mod Escapes
 pub mod Forms
 pub mod Touching
 pub mod Readable
+pub mod Sound
+pub mod ReadBack

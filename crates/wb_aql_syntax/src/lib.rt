@@ -28,6 +28,7 @@ pub use lexer_laws::{
 pub use printer::print;
 pub use printing_laws::{
     canonical_is_shallowest, canonical_is_shortest, canonical_spells, canonical_tells_trees_apart,
+    printed_spells, printed_tells_trees_apart, read_trees_are_writable,
 };
 pub use token::{Sign, Token};
 pub use wb_base::Text;
