@@ -197,7 +197,10 @@ calls : (d : CallKind) (n l : ℕ) (x : Tree) (v : List ℕ) → AtMost (suc n) 
     (M : ℕ) × (K : ℕ) × (q : Tightness) × (e : ℕ) × Pays (inside (CallArguments d x v) (Sign s.Close)) n l M K q e
     × ((y : Tree) (j : ℕ) → Cost M K q (j + e) y → Pays (last (PostMore y)) (suc n) l (suc n) l at.Post (suc (j + suc (suc (size_at at.Post x)))))
 calls d n l x v u = (
-  suc n, l, at.Post, 3 + size_at at.Post x,
+  suc n,
+  l,
+  at.Post,
+  3 + size_at at.Post x,
   (u, λ y j c. more (omega (arith, no_arguments_size)) c),
   λ y j c. ((c.opened, c.bound), λ z i e. more (omega (arith, c.tokens)) e),
 )
@@ -207,7 +210,10 @@ collects : (k : CollectionKind) (n l : ℕ) →
     (M : ℕ) × (K : ℕ) × (q : Tightness) × (e : ℕ) × Pays (inside (Elements k) (Sign s.CloseBrace)) n l M K q e
     × ((y : Tree) (j : ℕ) → Cost M K q (j + e) y → Pays (done y) (suc n) l (suc n) l at.Atom (suc (j + 1)))
 collects k n l = (
-  suc n, l, at.Atom, 2,
+  suc n,
+  l,
+  at.Atom,
+  2,
   (tt, λ y j c. more (omega (arith, no_elements_size)) c),
   λ y j c. more (omega arith) c,
 )
@@ -215,7 +221,10 @@ collects k n l = (
 lines : {p : Phrase} {line : Rest} → Line p line → (n l : ℕ) → Given n l p → Pays line n l (outside p n) l (sort p) (around p)
 lines g.let_in zero l u = no_opening _ l
 lines g.let_in (suc n) l u = open_line _ n l (
-  suc n, l, at.Expr, 1,
+  suc n,
+  l,
+  at.Expr,
+  1,
   λ v. (tt, λ x j c. (tt, λ y i e. more (omega arith) (cost_let v x y (j + 0) (i + 0) c e))),
   λ y j c. more (omega arith) c,
 )
@@ -268,7 +277,10 @@ lines (g.next_argument {xs = ys}) n l u = (u, λ y j c. more (omega (arith, one_
 lines (g.arguments_end {d = d} {x = x} {v = v} {xs = ys}) n l u = cost_call d x v ys u.0.0 u.0.1 u.1 u.2
 lines (g.lambda {x = x} {xs = ys}) n zero u = λ w. no_bar _ n
 lines (g.lambda {x = x} {xs = ys}) n (suc l) u = λ w. bar_line _ n l (
-  n, l, at.Expr, 0,
+  n,
+  l,
+  at.Expr,
+  0,
   (tt, λ y j c. more (omega arith) c),
   λ y j c. ((u.0, lambda_opened n (suc l) w y ys (any_opened c) u.1, lambda_bound n (suc l) w y ys (omega (arith, c.bound)) u.2), λ z i e. more (omega (arith, size_lambda w y ys, any_tokens c)) e),
 )
@@ -287,7 +299,10 @@ lines g.parentheses zero l u = no_opening _ l
 lines g.parentheses (suc n) l u = open_line _ n l (suc n, l, at.Atom, 1, (tt, λ x j c. more (omega arith) (in_parentheses c)), λ y j c. more (omega arith) c)
 lines g.if zero l u = no_opening _ l
 lines g.if (suc n) l u = open_line _ n l (
-  suc n, l, at.Atom, 1,
+  suc n,
+  l,
+  at.Atom,
+  1,
   (tt, λ x j c. (tt, λ y i e. (tt, λ z h f. more (omega arith) (cost_if x y z (j + 0) (i + 0) (h + 0) c e f)))),
   λ y j c. more (omega arith) c,
 )

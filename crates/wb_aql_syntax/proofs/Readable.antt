@@ -167,6 +167,7 @@ good_let v ps w g = record {
 
 mutual
   unfolding pieces
+
   good : (x : Tree) → Within (pieces x) → Good (pieces x)
   good (t.Integer n) w = good_one (Integer n) refl (spelled_integer n w.0)
   good (t.Text v) w = good_one (Quoted v) refl (spelled_text v w.0)

@@ -200,6 +200,7 @@ kept_prefix u.Negate ps h = h
 
 mutual
   unfolding pieces
+
   kept : (x : Tree) → Sound x → Kept (pieces x)
   kept (t.Integer n) h = and_from _ _ h refl
   kept (t.Text v) h = and_from _ _ h refl

@@ -400,7 +400,6 @@ module _ (n l : ℕ) (o : BinaryOperator) (x y : Tree) (below : openings_of (t.B
   unfolding openings_of lambdas_of
   right_whole = wanted (right_of o) y at_y n l (right_most _ _ n below) (right_most _ _ l within)
 
-
 binary : (o : BinaryOperator) (x y : Tree) → Bare x → Bare y → Bare (t.Binary o x y)
 unfolding pieces openings_of lambdas_of
 binary b.Implies x y at_x at_y n l h k = chained n l b.Implies x y
@@ -448,6 +447,7 @@ binary b.Divide x y at_x at_y n l h k = chained n l b.Divide x y
 
 mutual
   unfolding pieces openings_of lambdas_of
+
   bare : (x : Tree) → Bare x
   bare (t.Integer i) n l h k mid rest z d = reads_phrase g.integer (reads_sign reads_done) d
   bare (t.Text v) n l h k mid rest z d = reads_phrase g.text (reads_sign reads_done) d

@@ -5,9 +5,9 @@ ghost use Rattle.wb_aql_syntax.specs.Canonical.{pieces, standing, enclosed, elem
 ghost use Rattle.wb_aql_syntax.specs.Printed.{printed, Wrote};
 
 use crate::expr::{Argument, Binary, CallKind, CollectionKind, Node};
+use crate::sign_words::{link_of, sign_of, word_of_constant, word_of_kind};
 use crate::tightness::{Tightness, left_of, prefix_of, right_of, stands, tightness_of};
 use crate::token::Sign;
-use crate::sign_words::{link_of, sign_of, word_of_constant, word_of_kind};
 use crate::writer::{
     write_apart, write_blank, write_comma, write_integer, write_name, write_prefix, write_quoted,
     write_sign,
@@ -127,12 +127,7 @@ fn write_binary(
 
 /// Writes a condition with its two branches.
 #[cycle(printer)]
-fn write_if(
-    out: &mut String,
-    condition: &Node,
-    yes: &Node,
-    no: &Node,
-) -> Result<(), AllocError>
+fn write_if(out: &mut String, condition: &Node, yes: &Node, no: &Node) -> Result<(), AllocError>
     ensures { OnOk result (Wrote out.old (pieces (t.If (tree_of condition.now) (tree_of yes.now) (tree_of no.now))) out.new) }
 {
     write_sign(out, Sign::If)?;
@@ -148,12 +143,7 @@ fn write_if(
 
 /// Writes a binding with its body.
 #[cycle(printer)]
-fn write_let(
-    out: &mut String,
-    name: &Text,
-    value: &Node,
-    body: &Node,
-) -> Result<(), AllocError>
+fn write_let(out: &mut String, name: &Text, value: &Node, body: &Node) -> Result<(), AllocError>
     ensures { OnOk result (Wrote out.old (pieces (t.Let name.now (tree_of value.now) (tree_of body.now))) out.new) }
 {
     write_sign(out, Sign::Let)?;
@@ -200,5 +190,129 @@ fn write_argument(out: &mut String, argument: &Argument<Boxed<Node>>) -> Result<
             write_name(out, class)
         }
         Argument::Expression(value) => write_bare(out, value.get()),
+    }
+}
+
+#[cfg(test)]
+mod tests {
+    use super::*;
+    use crate::expr::{Constant, Unary};
+    use std::test::Fail;
+
+    fn variable(alloc: Global, name: &str) -> Result<Node, AllocError> {
+        Ok(Node::variable(Text::from_str(alloc, name)?))
+    }
+
+    fn text(alloc: Global, value: &str) -> Result<Node, AllocError> {
+        Ok(Node::text(Text::from_str(alloc, value)?))
+    }
+
+    fn feature(alloc: Global, receiver: Node, name: &str) -> Result<Node, AllocError> {
+        Node::feature(alloc, receiver, Text::from_str(alloc, name)?)
+    }
+
+    #[test]
+    fn only_needed_parentheses_are_printed(rt: HostRuntime) -> Result<(), Fail> {
+        let alloc = rt.alloc();
+        let sum = Node::binary(alloc, Binary::Add, Node::integer(1), Node::integer(2))?;
+        let product = Node::binary(alloc, Binary::Multiply, sum, Node::integer(3))?;
+        let tree = Node::binary(alloc, Binary::Subtract, product, Node::integer(4))?;
+        assert!(rt; print(alloc, &tree)?.as_str() == "(1 + 2) * 3 - 4");
+        Ok(())
+    }
+
+    #[test]
+    fn not_holds_a_whole_comparison(rt: HostRuntime) -> Result<(), Fail> {
+        let alloc = rt.alloc();
+        let (a, b) = (variable(alloc, "a")?, variable(alloc, "b")?);
+        let tree = Node::unary(alloc, Unary::Not, Node::binary(alloc, Binary::Equal, a, b)?)?;
+        assert!(rt; print(alloc, &tree)?.as_str() == "not a = b");
+        let (c, one) = (Node::constant(Constant::True), Node::integer(1));
+        let sum = Node::binary(alloc, Binary::Add, Node::unary(alloc, Unary::Not, c)?, one)?;
+        assert!(rt; print(alloc, &sum)?.as_str() == "(not true) + 1");
+        Ok(())
+    }
+
+    #[test]
+    fn chains_group_to_the_left(rt: HostRuntime) -> Result<(), Fail> {
+        let alloc = rt.alloc();
+        let (a, b) = (variable(alloc, "a")?, variable(alloc, "b")?);
+        let front = Node::binary(alloc, Binary::Implies, a, b)?;
+        let tree = Node::binary(alloc, Binary::Implies, front, variable(alloc, "c")?)?;
+        assert!(rt; print(alloc, &tree)?.as_str() == "a implies b implies c");
+        let (b, c) = (variable(alloc, "b")?, variable(alloc, "c")?);
+        let behind = Node::binary(alloc, Binary::Implies, b, c)?;
+        let tree = Node::binary(alloc, Binary::Implies, variable(alloc, "a")?, behind)?;
+        assert!(rt; print(alloc, &tree)?.as_str() == "a implies (b implies c)");
+        Ok(())
+    }
+
+    #[test]
+    fn a_condition_has_single_spaces(rt: HostRuntime) -> Result<(), Fail> {
+        let alloc = rt.alloc();
+        let pages = feature(alloc, variable(alloc, "self")?, "pages")?;
+        let large = Node::binary(alloc, Binary::Greater, pages, Node::integer(100))?;
+        let tree = Node::conditional(alloc, large, text(alloc, "long")?, text(alloc, "short")?)?;
+        let printed = print(alloc, &tree)?;
+        assert!(rt; printed.as_str() == "if self.pages > 100 then 'long' else 'short' endif");
+        Ok(())
+    }
+
+    #[test]
+    fn nothing_stands_behind_a_prefix_minus(rt: HostRuntime) -> Result<(), Fail> {
+        let alloc = rt.alloc();
+        let one = Node::unary(alloc, Unary::Negate, Node::integer(1))?;
+        let tree = Node::unary(alloc, Unary::Negate, one)?;
+        assert!(rt; print(alloc, &tree)?.as_str() == "--1");
+        Ok(())
+    }
+
+    #[test]
+    fn texts_are_escaped(rt: HostRuntime) -> Result<(), Fail> {
+        let alloc = rt.alloc();
+        let tree = text(alloc, "it's\ta \\ caf\u{e9}\r\n")?;
+        assert!(rt; print(alloc, &tree)?.as_str() == "'it\\'s\\ta \\\\ caf\u{e9}\r\\n'");
+        Ok(())
+    }
+
+    #[test]
+    fn a_call_has_its_arguments(rt: HostRuntime) -> Result<(), Fail> {
+        let alloc = rt.alloc();
+        let title = feature(alloc, variable(alloc, "b")?, "title")?;
+        let body = Boxed::new(alloc, title)?;
+        let (package, class) = (
+            Text::from_str(alloc, "lib")?,
+            Text::from_str(alloc, "Book")?,
+        );
+        let mut arguments = Items::new(alloc);
+        arguments.push(Argument::Lambda(Text::from_str(alloc, "b")?, body))?;
+        arguments.push(Argument::Type(package, class))?;
+        arguments.push(Argument::Expression(Boxed::new(alloc, Node::integer(7))?))?;
+        let mut elements = Items::new(alloc);
+        elements.push(Node::integer(1))?;
+        elements.push(Node::constant(Constant::Null))?;
+        let receiver = Node::collection(CollectionKind::OrderedSet, elements);
+        let name = Text::from_str(alloc, "f")?;
+        let tree = Node::call(alloc, CallKind::Arrow, receiver, name, arguments)?;
+        let printed = print(alloc, &tree)?;
+        assert!(rt; printed.as_str() == "OrderedSet{1, null}->f(b | b.title, lib::Book, 7)");
+        Ok(())
+    }
+
+    #[test]
+    fn a_binding_is_an_operand_in_parentheses(rt: HostRuntime) -> Result<(), Fail> {
+        let alloc = rt.alloc();
+        let name = Text::from_str(alloc, "x")?;
+        let sum = Node::binary(alloc, Binary::Add, variable(alloc, "x")?, Node::integer(2))?;
+        let binding = Node::let_in(alloc, name, Node::integer(1), sum)?;
+        assert!(rt; print(alloc, &binding)?.as_str() == "let x = 1 in x + 2");
+        let literal = Node::literal(
+            Text::from_str(alloc, "lib")?,
+            Text::from_str(alloc, "Genre")?,
+            Text::from_str(alloc, "Novel")?,
+        );
+        let tree = Node::binary(alloc, Binary::And, literal, binding)?;
+        assert!(rt; print(alloc, &tree)?.as_str() == "lib::Genre::Novel and (let x = 1 in x + 2)");
+        Ok(())
     }
 }

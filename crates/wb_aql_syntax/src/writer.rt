@@ -6,8 +6,8 @@ ghost use Rattle.wb_aql_syntax.specs.Printed.{Wrote, escaped};
 ghost use Rattle.wb_aql_syntax.specs.declared.token.Token.TheVariants.{Name as name_token, Integer as integer_token, Quoted as quoted_token};
 
 use crate::expr::Unary;
-use crate::token::Sign;
 use crate::sign_words::word;
+use crate::token::Sign;
 use std::alloc::AllocError;
 use wb_base::Text;
 
