@@ -19,7 +19,7 @@ use Rattle.wb_aql_syntax.specs.declared.expr.CollectionKind.TheVariants as k
 use Rattle.wb_aql_syntax.specs.declared.tightness.Tightness.{Tightness}
 use Rattle.wb_aql_syntax.specs.declared.tightness.Tightness.TheVariants as at
 use Rattle.wb_aql_syntax.proofs.Sizes.{count, count_tokens, size_at, open_at, stands_itself, Cost, looser, more, plain, any_tokens, any_opened, in_parentheses, cost_binary, cost_not, cost_negate, cost_if, cost_let, cost_feature, size_call, size_collection, cost_call, cost_collection, element_comma, argument_comma, size_elements, size_expression, size_lambda, size_type, elements_opened, elements_bound, expression_opened, expression_bound, lambda_opened, lambda_bound, type_opened, type_bound}
-use Rattle.wb_aql_syntax.proofs.Spelled.{spelled}
+use Rattle.wb_aql_syntax.proofs.CanonicalSpells.{spelled}
 use Rattle.wb_aql_syntax.proofs.Unique.{unambiguous}
 
 -- ---- what a phrase costs

@@ -15,7 +15,7 @@ pub mod Whole
 pub mod Nodes
 pub mod Steps
 pub mod Unique
-pub mod Spelled
+pub mod CanonicalSpells
 pub mod Sizes
 pub mod Least
 pub mod Trees

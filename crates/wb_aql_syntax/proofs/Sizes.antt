@@ -15,7 +15,7 @@ use Rattle.wb_aql_syntax.specs.declared.expr.CallKind.{CallKind}
 use Rattle.wb_aql_syntax.specs.declared.tightness.Tightness.{Tightness}
 use Rattle.wb_aql_syntax.specs.declared.tightness.Tightness.TheVariants as at
 use Rattle.wb_aql_syntax.proofs.Local.{not_both}
-use Rattle.wb_aql_syntax.proofs.Spelled.{left_most, right_most}
+use Rattle.wb_aql_syntax.proofs.CanonicalSpells.{left_most, right_most}
 
 -- how many tokens
 abbrev pub count : List Piece → ℕ
