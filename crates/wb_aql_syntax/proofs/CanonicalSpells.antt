@@ -531,8 +531,12 @@ mutual
       reads_phrase g.next_argument (reads_sign (read_expression n l d r v ys x (argument_pieces true xs) mid _ (anywhere x (bare x)) (left_most _ _ n h) (left_most _ _ l i)
       (more_arguments xs n l (right_most _ _ n h) (right_most _ _ l i) d r v (with_expression ys x) mid))) reads_done
 
+-- the canonical tokens spell the tree within all bounds that are not below its least ones
+pub spelled_within : (x : Tree) (n l : ℕ) → openings_of x ≤ n → lambdas_of x ≤ l → Spells n l (canon x) x
+spelled_within x n l h k = subst (λ w. Spells n l w x) (before_nothing (pieces x)) (anywhere x (bare x) n l h k [])
+
 same_bound : (n : ℕ) → n ≤ n
 same_bound n = omega arith
 
 pub spelled : (x : Tree) → Spells (openings_of x) (lambdas_of x) (canon x) x
-spelled x = subst (λ w. Spells (openings_of x) (lambdas_of x) w x) (before_nothing (pieces x)) (anywhere x (bare x) (openings_of x) (lambdas_of x) (same_bound (openings_of x)) (same_bound (lambdas_of x)) [])
+spelled x = spelled_within x (openings_of x) (lambdas_of x) (same_bound (openings_of x)) (same_bound (lambdas_of x))

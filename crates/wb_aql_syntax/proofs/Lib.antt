@@ -27,3 +27,9 @@ pub mod Touching
 pub mod Readable
 pub mod Sound
 pub mod ReadBack
+pub mod Measures
+pub mod Shorter
+pub mod Parts
+pub mod Picks
+pub mod Growing
+pub mod Texts

@@ -1,3 +1,6 @@
+pub mod Answers
+pub mod Codes
+pub mod Expressions
 pub mod Reading
 pub mod Places
 pub mod Runs

@@ -1,5 +1,5 @@
 -- What a step of the parser says of what it read, by the outcomes of the rest of a line.
-use Rattle.std.specs.Prelude.{ℕ, List, Result, MatchResult}
+use Rattle.std.specs.Prelude.{ℕ, List, Bool, true, false, Result, MatchResult}
 use Rattle.std.specs.Borrow.{Bor}
 use Rattle.wb_aql_syntax.specs.Tree.{Tree, Trees, Arguments, with_lambda, with_type, with_expression}
 use Rattle.wb_aql_syntax.specs.Tree as t
@@ -126,6 +126,14 @@ Links k text rest = (n l : ℕ) (x : Tree) (o : Outcome) → Runs n l (name (λ 
 
 abbrev pub NoLink : List Token → Type 0
 NoLink text = (n l : ℕ) (x : Tree) → Runs n l (last (PostMore x)) text (Good x text)
+
+-- what was named is a service that is called, or a feature
+abbrev pub named_link : Bool → CallKind → Tree → List ℕ → Rest
+named_link true k x v = call k x v
+named_link false k x v = last (PostMore (t.Feature x v))
+
+abbrev pub Names : Bool → CallKind → List Token → Type 0
+Names called k text = (n l : ℕ) (x : Tree) (v : List ℕ) (o : Outcome) → Runs n l (named_link called k x v) text o → Runs n l (linked k x v) text o
 
 -- one link of a chain of `.` and `->` is read: what comes of the chain behind it comes of the whole
 abbrev pub ComesLinked : ℕ → ℕ → Rest → List Token → Result (Node × Bor (List Token)) Stop → Type 0

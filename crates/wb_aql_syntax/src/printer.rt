@@ -17,7 +17,7 @@ use std::alloc::{AllocError, Global};
 use wb_base::Text;
 
 /// The canonical spelling of a tree.
-pub fn print(alloc: Global, e: &Node) -> Result<Text, AllocError>
+pub(crate) fn print_tree(alloc: Global, e: &Node) -> Result<Text, AllocError>
     ensures { IfOk result (λ text. text ≡ printed (tree_of e.now)) }
 {
     let mut out = String::new(alloc);
@@ -217,7 +217,7 @@ mod tests {
         let sum = Node::binary(alloc, Binary::Add, Node::integer(1), Node::integer(2))?;
         let product = Node::binary(alloc, Binary::Multiply, sum, Node::integer(3))?;
         let tree = Node::binary(alloc, Binary::Subtract, product, Node::integer(4))?;
-        assert!(rt; print(alloc, &tree)?.as_str() == "(1 + 2) * 3 - 4");
+        assert!(rt; print_tree(alloc, &tree)?.as_str() == "(1 + 2) * 3 - 4");
         Ok(())
     }
 
@@ -226,10 +226,10 @@ mod tests {
         let alloc = rt.alloc();
         let (a, b) = (variable(alloc, "a")?, variable(alloc, "b")?);
         let tree = Node::unary(alloc, Unary::Not, Node::binary(alloc, Binary::Equal, a, b)?)?;
-        assert!(rt; print(alloc, &tree)?.as_str() == "not a = b");
+        assert!(rt; print_tree(alloc, &tree)?.as_str() == "not a = b");
         let (c, one) = (Node::constant(Constant::True), Node::integer(1));
         let sum = Node::binary(alloc, Binary::Add, Node::unary(alloc, Unary::Not, c)?, one)?;
-        assert!(rt; print(alloc, &sum)?.as_str() == "(not true) + 1");
+        assert!(rt; print_tree(alloc, &sum)?.as_str() == "(not true) + 1");
         Ok(())
     }
 
@@ -239,11 +239,11 @@ mod tests {
         let (a, b) = (variable(alloc, "a")?, variable(alloc, "b")?);
         let front = Node::binary(alloc, Binary::Implies, a, b)?;
         let tree = Node::binary(alloc, Binary::Implies, front, variable(alloc, "c")?)?;
-        assert!(rt; print(alloc, &tree)?.as_str() == "a implies b implies c");
+        assert!(rt; print_tree(alloc, &tree)?.as_str() == "a implies b implies c");
         let (b, c) = (variable(alloc, "b")?, variable(alloc, "c")?);
         let behind = Node::binary(alloc, Binary::Implies, b, c)?;
         let tree = Node::binary(alloc, Binary::Implies, variable(alloc, "a")?, behind)?;
-        assert!(rt; print(alloc, &tree)?.as_str() == "a implies (b implies c)");
+        assert!(rt; print_tree(alloc, &tree)?.as_str() == "a implies (b implies c)");
         Ok(())
     }
 
@@ -253,7 +253,7 @@ mod tests {
         let pages = feature(alloc, variable(alloc, "self")?, "pages")?;
         let large = Node::binary(alloc, Binary::Greater, pages, Node::integer(100))?;
         let tree = Node::conditional(alloc, large, text(alloc, "long")?, text(alloc, "short")?)?;
-        let printed = print(alloc, &tree)?;
+        let printed = print_tree(alloc, &tree)?;
         assert!(rt; printed.as_str() == "if self.pages > 100 then 'long' else 'short' endif");
         Ok(())
     }
@@ -263,7 +263,7 @@ mod tests {
         let alloc = rt.alloc();
         let one = Node::unary(alloc, Unary::Negate, Node::integer(1))?;
         let tree = Node::unary(alloc, Unary::Negate, one)?;
-        assert!(rt; print(alloc, &tree)?.as_str() == "--1");
+        assert!(rt; print_tree(alloc, &tree)?.as_str() == "--1");
         Ok(())
     }
 
@@ -271,7 +271,7 @@ mod tests {
     fn texts_are_escaped(rt: HostRuntime) -> Result<(), Fail> {
         let alloc = rt.alloc();
         let tree = text(alloc, "it's\ta \\ caf\u{e9}\r\n")?;
-        assert!(rt; print(alloc, &tree)?.as_str() == "'it\\'s\\ta \\\\ caf\u{e9}\r\\n'");
+        assert!(rt; print_tree(alloc, &tree)?.as_str() == "'it\\'s\\ta \\\\ caf\u{e9}\r\\n'");
         Ok(())
     }
 
@@ -294,7 +294,7 @@ mod tests {
         let receiver = Node::collection(CollectionKind::OrderedSet, elements);
         let name = Text::from_str(alloc, "f")?;
         let tree = Node::call(alloc, CallKind::Arrow, receiver, name, arguments)?;
-        let printed = print(alloc, &tree)?;
+        let printed = print_tree(alloc, &tree)?;
         assert!(rt; printed.as_str() == "OrderedSet{1, null}->f(b | b.title, lib::Book, 7)");
         Ok(())
     }
@@ -305,14 +305,14 @@ mod tests {
         let name = Text::from_str(alloc, "x")?;
         let sum = Node::binary(alloc, Binary::Add, variable(alloc, "x")?, Node::integer(2))?;
         let binding = Node::let_in(alloc, name, Node::integer(1), sum)?;
-        assert!(rt; print(alloc, &binding)?.as_str() == "let x = 1 in x + 2");
+        assert!(rt; print_tree(alloc, &binding)?.as_str() == "let x = 1 in x + 2");
         let literal = Node::literal(
             Text::from_str(alloc, "lib")?,
             Text::from_str(alloc, "Genre")?,
             Text::from_str(alloc, "Novel")?,
         );
         let tree = Node::binary(alloc, Binary::And, literal, binding)?;
-        assert!(rt; print(alloc, &tree)?.as_str() == "lib::Genre::Novel and (let x = 1 in x + 2)");
+        assert!(rt; print_tree(alloc, &tree)?.as_str() == "lib::Genre::Novel and (let x = 1 in x + 2)");
         Ok(())
     }
 }

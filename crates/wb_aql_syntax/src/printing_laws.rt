@@ -3,6 +3,7 @@ ghost use Rattle.wb_aql_syntax.specs.Tree.{Tree};
 ghost use Rattle.wb_aql_syntax.specs.Grammar.{Spells};
 ghost use Rattle.wb_aql_syntax.specs.Canonical.{canon, openings_of, lambdas_of};
 ghost use Rattle.wb_aql_syntax.specs.Lexes.{Lexes};
+ghost use Rattle.wb_aql_syntax.specs.Expressions.{SpellsText, IsExpression};
 ghost use Rattle.wb_aql_syntax.specs.Printed.{printed, is_writable};
 ghost use Rattle.wb_aql_syntax.specs.declared.token.Token.{Token};
 
@@ -39,4 +40,9 @@ pub fn read_trees_are_writable()
 /// Equal trees alone have the same canonical bytes.
 pub fn printed_tells_trees_apart()
     ensures { (x y : Tree) → is_writable x ≡ true → is_writable y ≡ true → printed x ≡ printed y → x ≡ y }
+{}
+
+/// The canonical bytes of an expression spell it, within the bounds of a text.
+pub fn printed_is_read_back()
+    ensures { (x : Tree) → IsExpression x → SpellsText (printed x) x }
 {}
