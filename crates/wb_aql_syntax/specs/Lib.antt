@@ -10,3 +10,5 @@ pub mod View
 pub mod Lexes
 pub mod Lexer
 pub mod Apart
+pub mod Canonical
+pub mod Printed
