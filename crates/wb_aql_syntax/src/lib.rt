@@ -8,6 +8,8 @@ mod laws;
 mod level;
 mod lexer;
 mod lexer_laws;
+#[cfg(test)]
+mod lexer_tests;
 mod quotes;
 mod reading;
 mod signs;
