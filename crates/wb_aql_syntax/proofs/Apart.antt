@@ -1,22 +1,22 @@
 -- A text that is spelled token by token has these tokens.
-use Rattle.std.proofs.Common.{◌≡◌, ◌≢◌, ℕ, suc, ◌+◌, ◌≤◌, ◌<◌, Bool, true, false, List, [], ◌∷◌, ◌++◌, length, Some, None, refl, sym, ap, ◌∙◌, subst, append_assoc, append-nil, arith, true≢false, codes}
+use Rattle.std.proofs.Common.{◌≡◌, ℕ, suc, ◌+◌, ◌<◌, true, List, [], ◌∷◌, ◌++◌, length, Some, refl, sym, ap, ◌∙◌, subst, append_assoc, arith, true≢false}
 use Rattle.std.specs.Prelude.{not}
 use Rattle.std.specs.List.{list_all}
 use Rattle.std.specs.Char.{is_ascii_digit}
 use Rattle.std.specs.Str.{byte}
-use Rattle.std.proofs.lemmas.Bool.{and_parts, true_from_ne_false, not_from_true}
+use Rattle.std.proofs.lemmas.Bool.{and_parts, not_from_true}
 use Rattle.std.proofs.lemmas.List.{append_cancel_left, length-append}
-use Rattle.wb_aql_syntax.specs.Lexes.{word_of, is_name_byte, is_blank, is_within, Quotes, Spelling, IsNext, NoToken, Lexes, lexes_blank, lexes_token}
+use Rattle.wb_aql_syntax.specs.Lexes.{word_of, is_name_byte, is_within, Quotes, Spelling, IsNext, Lexes, lexes_blank, lexes_token}
 use Rattle.wb_aql_syntax.specs.Lexer.{first_start}
 use Rattle.wb_aql_syntax.specs.Apart.{lengthens_sign, lengthens, ends_before}
-use Rattle.wb_aql_syntax.specs.declared.characters.Start.{Start}
 use Rattle.wb_aql_syntax.specs.declared.characters.Start.TheVariants as b
 use Rattle.wb_aql_syntax.specs.declared.token.Token.{Token}
 use Rattle.wb_aql_syntax.specs.declared.token.Token.TheVariants.{Sign, Name, Integer, Quoted, Bad}
 use Rattle.wb_aql_syntax.specs.declared.token.Sign.{Sign as SignName}
 use Rattle.wb_aql_syntax.specs.declared.token.Sign.TheVariants as s
 use Rattle.wb_aql_syntax.proofs.Words.{is_word, is_short, is_long, shape, same_sign, no_colon}
-use Rattle.wb_aql_syntax.proofs.Spellings.{part_passes, from_all_digits, start, spelled_start, starts_more, some_start, word_bytes, integer_bytes, quoted_bytes, sign_bytes}
+use Rattle.wb_aql_syntax.proofs.Runs.{part_passes}
+use Rattle.wb_aql_syntax.proofs.Spellings.{from_all_digits, start, spelled_start, starts_more, some_start, word_bytes, integer_bytes, quoted_bytes, sign_bytes}
 use Rattle.wb_aql_syntax.proofs.Pieces.{same_pieces, quote_stops}
 
 -- ---- longer signs

@@ -1,13 +1,14 @@
 -- How the tokens of a text are found one after the other.
-use Rattle.std.proofs.Common.{◌≡◌, ◌≢◌, ℕ, suc, ◌+◌, ◌-◌, ◌≤◌, ◌<◌, Bool, true, false, cond, List, [], ◌∷◌, ◌++◌, length, drop, Some, refl, sym, ap, ◌∙◌, subst, subst₂, append_assoc, append-nil, arith, add-one, one-add, add-zero}
+use Rattle.std.proofs.Common.{◌≡◌, ◌≢◌, ℕ, suc, ◌+◌, ◌-◌, ◌≤◌, ◌<◌, Bool, true, false, cond, List, [], ◌∷◌, ◌++◌, length, drop, refl, sym, ap, ◌∙◌, subst, subst₂, append_assoc, append-nil, arith, one-add, add-zero}
 use Rattle.std.specs.List.{prefix_len}
 use Rattle.std.proofs.lemmas.List.{length-append, length-drop}
 use Rattle.std.proofs.lemmas.List.Sums.{prefix_len-le-length}
-use Rattle.wb_aql_syntax.specs.Lexes.{is_blank, IsNext, NoToken, Lexes, lexes_end, lexes_blank, lexes_token, lexes_bad, Spelling}
-use Rattle.wb_aql_syntax.specs.Lexer.{first_start, BeginsWith}
+use Rattle.wb_aql_syntax.specs.Lexes.{is_blank, NoToken, Lexes, lexes_end, lexes_blank, lexes_token, lexes_bad, Spelling}
+use Rattle.wb_aql_syntax.specs.Lexer.{BeginsWith}
 use Rattle.wb_aql_syntax.specs.declared.token.Token.{Token}
 use Rattle.wb_aql_syntax.specs.declared.token.Token.TheVariants.{Bad}
-use Rattle.wb_aql_syntax.proofs.Spellings.{Ends, run_ends, spelled_start, start, nothing}
+use Rattle.wb_aql_syntax.proofs.Runs.{Ends, run_ends}
+use Rattle.wb_aql_syntax.proofs.Spellings.{spelled_start, nothing}
 
 abbrev blanks : List ℕ → ℕ
 blanks text = prefix_len is_blank text

@@ -1,21 +1,21 @@
 -- The token that begins a text, found by the text's first byte.
-use Rattle.std.proofs.Common.{◌≡◌, ◌≢◌, ℕ, suc, zero, ◌+◌, ◌-◌, ◌≤◌, ◌<◌, ◌⊎◌, inl, inr, Bool, true, false, cond, List, [], ◌∷◌, ◌++◌, length, take, drop, min, Some, refl, sym, ap, ◌∙◌, subst, append_assoc, append-nil, take-append-drop, take-take, arith, ◌^◌, Result, Ok, Err}
-use Rattle.std.specs.List.{list_all, prefix_len}
+use Rattle.std.proofs.Common.{◌≡◌, ℕ, suc, zero, ◌+◌, ◌-◌, ◌≤◌, ◌<◌, ◌⊎◌, inl, inr, Bool, true, false, cond, List, [], ◌∷◌, ◌++◌, length, take, drop, min, Some, refl, sym, ap, ◌∙◌, subst, append_assoc, append-nil, take-append-drop, arith, ◌^◌, Result, Ok, Err}
+use Rattle.std.specs.List.{prefix_len}
 use Rattle.std.specs.Char.{is_ascii_digit}
 use Rattle.std.specs.Prelude.{◌==◌}
 use Rattle.std.specs.Str.Parse.{IsNumeral, ParsesUnsigned, digits_value, without_leading_plus}
 use Rattle.std.proofs.lemmas.Bool.Decides.{nat_tests}
 use Rattle.std.proofs.lemmas.Bool.{and_from, cases_lt, leb-true, le-leb, not_from_false}
-use Rattle.std.proofs.lemmas.List.{append_cancel_left, length-append, length-take-le, length-take, nil_from_length}
+use Rattle.std.proofs.lemmas.List.{length-append, length-take, nil_from_length}
 use Rattle.std.proofs.lemmas.List.Sums.{prefix_len-le-length}
-use Rattle.wb_aql_syntax.specs.Lexes.{word_of, is_name_byte, is_name, is_reserved, starts_name, is_quotable, is_raw, escape_of, Quotes, Means, means_none, means_raw, means_escaped, Spelling, IsNext, NoToken, is_within, largest_integer}
-use Rattle.wb_aql_syntax.specs.Lexer.{first_start, BeginsWith, BeginsWithSign, NoSignOf, Stops, Unescapes}
-use Rattle.wb_aql_syntax.specs.declared.characters.Start.{Start}
+use Rattle.wb_aql_syntax.specs.Lexes.{word_of, is_name_byte, is_name, is_reserved, starts_name, Spelling, IsNext, NoToken, is_within, largest_integer}
+use Rattle.wb_aql_syntax.specs.Lexer.{first_start, BeginsWith, BeginsWithSign, NoSignOf}
 use Rattle.wb_aql_syntax.specs.declared.characters.Start.TheVariants as b
 use Rattle.wb_aql_syntax.specs.declared.token.Token.{Token}
-use Rattle.wb_aql_syntax.specs.declared.token.Token.TheVariants.{Sign, Name, Integer, Quoted}
+use Rattle.wb_aql_syntax.specs.declared.token.Token.TheVariants.{Sign, Integer}
 use Rattle.wb_aql_syntax.specs.declared.token.Sign.{Sign as SignName}
-use Rattle.wb_aql_syntax.proofs.Spellings.{Ends, run_passes, run_ends, part_passes, longest_run, starts_word, starts_integer, start_is_name_byte, all_digits, from_digit, from_all_digits, start, token_start, word_bytes, integer_bytes, quoted_bytes, sign_bytes, some_start, nothing}
+use Rattle.wb_aql_syntax.proofs.Runs.{Ends, run_passes, run_ends, longest_run, part_of_run}
+use Rattle.wb_aql_syntax.proofs.Spellings.{starts_word, starts_integer, start_is_name_byte, all_digits, from_digit, from_all_digits, token_start, word_bytes, integer_bytes, sign_bytes, some_start, nothing}
 
 -- ---- lists
 
@@ -25,10 +25,6 @@ prefix_pos p c text e = subst (λ t. 0 < cond t (1 + prefix_len p text) 0) (sym 
 take_first : (n c : ℕ) (text : List ℕ) → 0 < n → take n (c ∷ text) ≡ c ∷ take (n - 1) text
 take_first zero c text h = absurd (omega arith)
 take_first (suc n) c text h = ap (λ k. c ∷ take k text) (omega arith)
-
-pub part_of_run : (p : ℕ → Bool) (m n : ℕ) (text : List ℕ) → n ≤ m → list_all p (take m text) ≡ true → list_all p (take n text) ≡ true
-part_of_run p m n text le h =
-    subst (λ xs. list_all p xs ≡ true) (take-take n m text le) (part_passes p (take n (take m text)) (drop n (take m text)) (ap (list_all p) (take-append-drop n (take m text)) ∙ h)).0
 
 -- of two fronts of a text the one is a front of the other
 pub fronts : (a x c y : List ℕ) → a ++ x ≡ c ++ y → ((m : List ℕ) × (c ≡ a ++ m) × (x ≡ m ++ y)) ⊎ ((m : List ℕ) × (a ≡ c ++ m) × (y ≡ m ++ x))

@@ -1,21 +1,19 @@
 -- A text has its tokens in one way, each within its bounds.
-use Rattle.std.proofs.Common.{◌≡◌, ℕ, suc, ◌+◌, ◌<◌, Bool, true, false, List, [], ◌∷◌, ◌++◌, length, Some, None, refl, sym, ap, ◌∙◌, subst, append-nil, arith, true≢false, inl, inr}
+use Rattle.std.proofs.Common.{◌≡◌, ℕ, suc, ◌+◌, Bool, true, false, List, [], ◌∷◌, ◌++◌, length, Some, refl, sym, ap, ◌∙◌, subst, append-nil, arith, true≢false, inl, inr}
 use Rattle.std.specs.List.{list_all}
 use Rattle.std.specs.Char.{is_ascii_digit}
 use Rattle.std.specs.Str.{byte}
 use Rattle.std.proofs.lemmas.Bool.{and_from}
 use Rattle.std.proofs.lemmas.Bool.Decides.{nat_tests}
 use Rattle.std.proofs.lemmas.List.{append_cancel_left}
-use Rattle.wb_aql_syntax.specs.Lexes.{word_of, is_name, is_name_start, is_blank, is_within, is_reserved, starts_name, Quotes, Spelling, IsNext, NoToken, Lexes, lexes_end, lexes_blank, lexes_token, lexes_bad}
-use Rattle.wb_aql_syntax.specs.Lexer.{first_start}
-use Rattle.wb_aql_syntax.specs.declared.characters.Start.{Start}
+use Rattle.wb_aql_syntax.specs.Lexes.{word_of, is_name, is_name_start, is_blank, is_within, starts_name, Quotes, Spelling, IsNext, NoToken, Lexes, lexes_end, lexes_blank, lexes_token, lexes_bad}
 use Rattle.wb_aql_syntax.specs.declared.characters.Start.TheVariants as b
 use Rattle.wb_aql_syntax.specs.declared.token.Token.{Token}
 use Rattle.wb_aql_syntax.specs.declared.token.Token.TheVariants.{Sign, Name, Integer, Quoted, Bad}
 use Rattle.wb_aql_syntax.specs.declared.token.Sign.{Sign as SignName}
 use Rattle.wb_aql_syntax.specs.declared.token.Sign.TheVariants as s
 use Rattle.wb_aql_syntax.proofs.Words.{is_word, is_short, is_long, shape, same_sign}
-use Rattle.wb_aql_syntax.proofs.Spellings.{name_parts, from_digit, start, spelled_start, some_start, nothing, no_token, integer_bytes, quoted_bytes, sign_bytes}
+use Rattle.wb_aql_syntax.proofs.Spellings.{name_parts, from_digit, start, spelled_start, some_start, nothing, no_token, integer_bytes, quoted_bytes}
 use Rattle.wb_aql_syntax.proofs.Pieces.{same_pieces, quote_stops}
 use Rattle.wb_aql_syntax.proofs.Next.{fronts}
 

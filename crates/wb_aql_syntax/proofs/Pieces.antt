@@ -1,14 +1,13 @@
 -- Texts in quotes.
-use Rattle.std.proofs.Common.{◌≡◌, ◌≢◌, ℕ, ◌<◌, length, Bool, true, false, List, [], ◌∷◌, ◌++◌, Option, Some, None, refl, sym, ap, ◌∙◌, subst, append_assoc, append-nil, true≢false, codes, arith, MatchOption, Bor}
+use Rattle.std.proofs.Common.{◌≡◌, ◌≢◌, ℕ, ◌<◌, length, true, false, List, [], ◌∷◌, ◌++◌, Option, Some, None, refl, sym, ap, ◌∙◌, subst, append_assoc, append-nil, true≢false, codes, arith, MatchOption, Bor}
 use Rattle.std.specs.Str.{byte}
 use Rattle.std.proofs.lemmas.Bool.{and_from, not_from_false, ne_eqb}
 use Rattle.std.proofs.lemmas.List.{append_cancel_left, length-append}
-use Rattle.wb_aql_syntax.specs.Lexes.{is_quotable, is_raw, escape_of, Quotes, Means, means_none, means_raw, means_escaped, Spelling, IsNext, NoToken, is_within}
+use Rattle.wb_aql_syntax.specs.Lexes.{is_quotable, is_raw, escape_of, Quotes, Means, means_none, means_raw, means_escaped, NoToken}
 use Rattle.wb_aql_syntax.specs.Lexer.{first_start, BeginsWith, BeginsWithPiece, BeginsWithEscape, NoEscape, Stops, Unescapes}
 use Rattle.wb_aql_syntax.specs.declared.characters.Start.TheVariants as b
-use Rattle.wb_aql_syntax.specs.declared.token.Token.{Token}
 use Rattle.wb_aql_syntax.specs.declared.token.Token.TheVariants.{Quoted}
-use Rattle.wb_aql_syntax.proofs.Spellings.{start, token_start, quoted_bytes}
+use Rattle.wb_aql_syntax.proofs.Spellings.{token_start, quoted_bytes}
 
 -- ---- pieces
 

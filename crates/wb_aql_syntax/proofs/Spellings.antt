@@ -1,64 +1,22 @@
 -- What the first byte of a text says of the token that begins it.
-use Rattle.std.proofs.Common.{◌≡◌, ℕ, suc, zero, ◌+◌, ◌-◌, ◌≤◌, ◌<◌, ◌⊎◌, inl, inr, Bool, true, false, cond, List, [], ◌∷◌, ◌++◌, length, take, drop, min, Option, Some, None, refl, sym, ap, ◌∙◌, subst, append_assoc, append-nil, take-append-drop, arith, add-one, one-add, true≢false, codes}
-use Rattle.std.specs.Prelude.{⊤, ◌==◌, nat_le, not, ◌&&◌, ◌||◌}
-use Rattle.std.specs.List.{list_all, prefix_len}
+use Rattle.std.proofs.Common.{◌≡◌, ℕ, ◌≤◌, ◌<◌, ◌⊎◌, inl, inr, Bool, true, false, cond, List, [], ◌∷◌, ◌++◌, length, Some, None, refl, sym, ap, ◌∙◌, subst, arith}
+use Rattle.std.specs.Prelude.{◌==◌, not}
+use Rattle.std.specs.List.{list_all}
 use Rattle.std.specs.Char.{is_ascii_digit, digit_value}
-use Rattle.std.specs.Str.{byte, IsUtf8, IsAscii}
+use Rattle.std.specs.Str.{byte}
 use Rattle.std.specs.Str.Parse.{IsNumeral, AllDigits, digits_value}
-use Rattle.std.proofs.lemmas.Bool.{and_parts, and_from, cases_lt, leb-true}
-use Rattle.std.proofs.lemmas.Str.{IsUtf8-from_ascii}
-use Rattle.std.proofs.lemmas.Str.Ascii.{IsAscii-nil, IsAscii-cons}
+use Rattle.std.proofs.lemmas.Bool.{and_parts, and_from, leb-true}
 use Rattle.std.proofs.lemmas.Bool.Decides.{nat_tests}
-use Rattle.std.proofs.lemmas.List.{append_cancel_left, length-append, length-take-le, length-take, nil_from_length}
-use Rattle.std.proofs.lemmas.List.Folds.{list_all-append}
-use Rattle.std.proofs.lemmas.List.Sums.{prefix_len-le-length}
-use Rattle.wb_aql_syntax.specs.Lexes.{word_of, is_name_start, is_name_byte, is_name, is_reserved, starts_name, is_quotable, Quotes, Spelling, IsNext, NoToken, is_within}
-use Rattle.wb_aql_syntax.specs.Lexer.{start_of, first_start, BeginsWith}
+use Rattle.wb_aql_syntax.specs.Lexes.{word_of, is_name_start, is_name_byte, is_name, is_reserved, starts_name, is_quotable, Quotes, Spelling, NoToken}
+use Rattle.wb_aql_syntax.specs.Lexer.{start_of, first_start}
 use Rattle.wb_aql_syntax.specs.declared.characters.Start.{Start}
 use Rattle.wb_aql_syntax.specs.declared.characters.Start.TheVariants as b
 use Rattle.wb_aql_syntax.specs.declared.token.Token.{Token}
 use Rattle.wb_aql_syntax.specs.declared.token.Token.TheVariants.{Sign, Name, Integer, Quoted, Bad}
 use Rattle.wb_aql_syntax.specs.declared.token.Sign.{Sign as SignName}
-use Rattle.wb_aql_syntax.proofs.Words.{Shape, is_word, is_short, is_long, shape, same_sign}
-
--- ---- runs
-
--- the text does not go on with a byte that passes
-abbrev pub Ends : (ℕ → Bool) → List ℕ → Type 0
-Ends p [] = ⊤
-Ends p (c ∷ text) = p c ≡ false
-
-module _ (p : ℕ → Bool) (c : ℕ) (text : List ℕ) where
-  passes_on : (t : Bool) → p c ≡ t → list_all p (take (prefix_len p text) text) ≡ true → list_all p (take (cond t (1 + prefix_len p text) 0) (c ∷ text)) ≡ true
-  passes_on true e h = rw one-add (and_from _ _ e h)
-  passes_on false e h = refl
-
-  ends_on : (t : Bool) → p c ≡ t → Ends p (drop (prefix_len p text) text) → Ends p (drop (cond t (1 + prefix_len p text) 0) (c ∷ text))
-  ends_on true e h = rw one-add h
-  ends_on false e h = e
-
-pub run_passes : (p : ℕ → Bool) (text : List ℕ) → list_all p (take (prefix_len p text) text) ≡ true
-run_passes p [] = refl
-run_passes p (c ∷ text) = passes_on p c text (p c) refl (run_passes p text)
-
-pub run_ends : (p : ℕ → Bool) (text : List ℕ) → Ends p (drop (prefix_len p text) text)
-run_ends p [] = tt
-run_ends p (c ∷ text) = ends_on p c text (p c) refl (run_ends p text)
-
-pub part_passes : (p : ℕ → Bool) (front more : List ℕ) → list_all p (front ++ more) ≡ true → (list_all p front ≡ true) × (list_all p more ≡ true)
-part_passes p front more h = and_parts _ _ (sym (list_all-append p front more) ∙ h)
-
--- a front that passes ends where no byte that passes follows
-pub longest_run : (p : ℕ → Bool) (front more behind rest : List ℕ) → Ends p rest → rest ≡ more ++ behind → list_all p (front ++ more) ≡ true → more ≡ []
-longest_run p front [] behind rest ends e h = refl
-longest_run p front (c ∷ more) behind rest ends e h =
-    let here : p c ≡ false = subst (Ends p) e ends in
-    absurd (true≢false (sym (and_parts _ _ (part_passes p front (c ∷ more) h).1).0 ∙ here))
+use Rattle.wb_aql_syntax.proofs.Words.{Shape, is_word, is_short, is_long, shape}
 
 -- ---- starts
-
-choose : Bool → Bool → Bool → Start
-choose w d q = cond w b.Word (cond d b.Integer (cond q b.Quoted b.Sign))
 
 word_chosen : (w d q : Bool) → cond w b.Word (cond d b.Integer (cond q b.Quoted b.Sign)) ≡ b.Word → w ≡ true
 word_chosen true d q e = refl
@@ -223,15 +181,6 @@ sign_bytes (Name name) front h e = cc
 sign_bytes (Integer n) front h e = cc
 sign_bytes (Quoted value) front h e = cc
 sign_bytes Bad front h e = absurd h
-
--- ---- texts of ASCII alone
-
-pub ascii_text : (p : ℕ → Bool) → ((c : ℕ) → p c ≡ true → c < 128) → (bytes : List ℕ) → list_all p bytes ≡ true → IsUtf8 bytes
-ascii_text p low bytes h = IsUtf8-from_ascii bytes (ascii bytes h)
-  where
-    ascii : (rest : List ℕ) → list_all p rest ≡ true → IsAscii rest
-    ascii [] e = IsAscii-nil
-    ascii (c ∷ rest) e = let u = and_parts _ _ e in IsAscii-cons c rest (low c u.0) (ascii rest u.1)
 
 pub low_name_byte : (c : ℕ) → is_name_byte c ≡ true → c < 128
 low_name_byte c e = grind (arith, nat_tests)

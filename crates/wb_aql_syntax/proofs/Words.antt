@@ -6,8 +6,7 @@ use Rattle.std.specs.Str.{byte}
 use Rattle.std.proofs.lemmas.Bool.{false_from_ne_true}
 use Rattle.std.proofs.lemmas.Slice.Eq.{bytes_eq-Decides}
 use Rattle.wb_aql_syntax.specs.Lexes.{word_of, is_reserved, reserved, is_name_byte}
-use Rattle.wb_aql_syntax.specs.Lexer.{start_of, first_start}
-use Rattle.wb_aql_syntax.specs.declared.characters.Start.{Start}
+use Rattle.wb_aql_syntax.specs.Lexer.{first_start}
 use Rattle.wb_aql_syntax.specs.declared.characters.Start.TheVariants as b
 use Rattle.wb_aql_syntax.specs.declared.token.Sign.{Sign as SignName}
 use Rattle.wb_aql_syntax.specs.declared.token.Sign.TheVariants as s

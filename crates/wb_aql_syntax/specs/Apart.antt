@@ -4,7 +4,7 @@ use Rattle.std.specs.Char.{is_ascii_digit}
 use Rattle.std.specs.Str.{byte}
 use Rattle.wb_aql_syntax.specs.Lexes.{is_name_byte}
 use Rattle.wb_aql_syntax.specs.declared.token.Token.{Token}
-use Rattle.wb_aql_syntax.specs.declared.token.Token.TheVariants.{Sign, Name, Integer, Quoted}
+use Rattle.wb_aql_syntax.specs.declared.token.Token.TheVariants.{Sign, Name, Integer}
 use Rattle.wb_aql_syntax.specs.declared.token.Sign.{Sign as SignName}
 use Rattle.wb_aql_syntax.specs.declared.token.Sign.TheVariants as s
 

@@ -2,7 +2,7 @@
 use Rattle.std.specs.Prelude.{◌≡◌, ℕ, true, List, [], ◌∷◌, ◌++◌, ◌==◌, length, Option, Some, None, if◌then◌else◌}
 use Rattle.std.specs.Char.{is_ascii_digit}
 use Rattle.std.specs.Str.{byte}
-use Rattle.wb_aql_syntax.specs.Lexes.{IsNext, NoToken, Means, escape_of, word_of, is_name_start}
+use Rattle.wb_aql_syntax.specs.Lexes.{IsNext, Means, escape_of, word_of, is_name_start}
 use Rattle.wb_aql_syntax.specs.declared.characters.Start.{Start}
 use Rattle.wb_aql_syntax.specs.declared.characters.Start.TheVariants as b
 use Rattle.wb_aql_syntax.specs.declared.token.Token.{Token}

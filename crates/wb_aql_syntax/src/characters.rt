@@ -61,11 +61,19 @@ pub fn is_blank(byte: u8) -> bool
 }
 
 /// How many name bytes the text begins with.
-fn name_len(text: &[u8]) -> usize
+fn name_bytes_len(text: &[u8]) -> usize
     ensures value { result ≡ prefix_len is_name_byte text.now }
     ensures within { result ≤ length text.now }
 {
     text.iter().take_while(|byte| is_name_byte(**byte)).count()
+}
+
+/// How many of the first 64 bytes are a run of name bytes.
+fn name_len(text: &[u8]) -> usize
+    ensures value { result ≡ min (prefix_len is_name_byte text.now) 64 }
+    ensures within { result ≤ length text.now }
+{
+    name_bytes_len(&text[..text.len().min(64)])
 }
 
 /// How many digits the text begins with.
@@ -81,7 +89,7 @@ pub fn name_run(text: &[u8]) -> (&str, &[u8])
     ensures front { result.0.now ≡ take (min (prefix_len is_name_byte text.now) 64) text.now }
     ensures behind { result.1.now ≡ drop (min (prefix_len is_name_byte text.now) 64) text.now }
 {
-    let (run, rest) = text.split_at(name_len(text).min(64));
+    let (run, rest) = text.split_at(name_len(text));
     match std::str::from_utf8(run) {
         Ok(name) => (name, rest),
         Err(_) => unreachable!(),

@@ -1,6 +1,7 @@
 use Rattle.std.proofs.Common.{sym, subst, ap, ◌∙◌, take, IsUtf8}
 use Rattle.std.specs.Char.{is_ascii_digit}
-use Rattle.wb_aql_syntax.proofs.Spellings.{ascii_text, low_digit, run_passes}
+use Rattle.wb_aql_syntax.proofs.Runs.{ascii_text, run_passes}
+use Rattle.wb_aql_syntax.proofs.Spellings.{low_digit}
 use Rattle.wb_aql_syntax.proofs.characters.digit_run.Goals as goal
 
 pub unreachable-requires : goal.unreachable-requires

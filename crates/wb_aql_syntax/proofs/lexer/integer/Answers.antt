@@ -1,4 +1,4 @@
-use Rattle.std.proofs.Common.{◌≡◌, ◌<◌, Ok, sym, subst, ap, ◌∙◌}
+use Rattle.std.proofs.Common.{◌<◌, sym, subst, ap, ◌∙◌}
 use Rattle.std.specs.Str.Parse.{IsNumeral, digits_value}
 use Rattle.wb_aql_syntax.specs.Lexes.{largest_integer}
 use Rattle.wb_aql_syntax.specs.Lexer.{BeginsWith}

@@ -2,7 +2,7 @@ use Rattle.std.proofs.Common.{◌≡◌, ◌≢◌, ◌<◌, [], length, sym, su
 use Rattle.std.specs.Prelude.{◌==◌}
 use Rattle.std.proofs.lemmas.Bool.{false≢true, eqb-true}
 use Rattle.std.proofs.lemmas.List.{nil_from_length}
-use Rattle.wb_aql_syntax.proofs.Lexing.{Lexing, lexing_begins, lexing_ends, lexing_stops, lexing_on, shorter}
+use Rattle.wb_aql_syntax.proofs.Lexing.{lexing_begins, lexing_ends, lexing_stops, lexing_on, shorter}
 use Rattle.wb_aql_syntax.proofs.lexer.tokens_of.Goals as goal
 
 pub loop-rest-init : goal.loop-rest-init

@@ -1,4 +1,4 @@
-use Rattle.std.proofs.Common.{◌≡◌, true, refl, sym, subst, ap, ◌∙◌, false}
+use Rattle.std.proofs.Common.{◌≡◌, true, refl, sym, subst, ◌∙◌, false}
 use Rattle.wb_aql_syntax.specs.Lexes.{is_name, is_reserved}
 use Rattle.wb_aql_syntax.specs.Lexer.{BeginsWith}
 use Rattle.wb_aql_syntax.specs.declared.token.Token.TheVariants.{Sign, Name}

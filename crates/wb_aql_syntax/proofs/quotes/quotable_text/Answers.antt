@@ -1,5 +1,4 @@
-use Rattle.std.proofs.Common.{◌≡◌, ◌≤◌, Vec, Global, length, IsUtf8, vec_items, string_bytes, sym, subst, ap, ◌∙◌, arith, IsOk}
-use Rattle.std.specs.Str.{is_utf8}
+use Rattle.std.proofs.Common.{◌≤◌, length, IsUtf8, vec_items, sym, subst, ap, ◌∙◌, arith, IsOk}
 use Rattle.std.proofs.lemmas.Bool.{and_from, and_right, le-leb, false_from_ne_true, false≢true}
 use Rattle.std.proofs.lemmas.Str.{IsUtf8-string_bytes, IsUtf8-from_is_utf8, is_utf8-from_IsUtf8}
 use Rattle.wb_aql_syntax.specs.Lexes.{is_quotable}
