@@ -7,7 +7,6 @@ mod change_list;
 mod checks;
 mod conditions;
 mod containment;
-mod edit_laws;
 mod copies;
 mod extent;
 mod edits;
