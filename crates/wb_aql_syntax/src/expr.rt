@@ -51,7 +51,6 @@ pub enum CallKind {
 }
 
 /// The uppermost node of a tree, and the trees below it.
-#[derive(Drop)]
 pub enum Node {
     Integer(u64),
     Text(Text),
@@ -68,6 +67,49 @@ pub enum Node {
     Feature(Boxed<Node>, Text),
     /// A service with its receiver before and its arguments behind.
     Call(CallKind, Boxed<Node>, Text, Items<Argument<Boxed<Node>>>),
+}
+
+/// A chain of operators, features and services may be as long as a text, so it is let go in a loop.
+impl Drop for Node {
+    fn drop(mut self) {
+        loop {
+            match self {
+                Node::Binary(_operator, left, right) => {
+                    drop(right);
+                    self = left.into_inner();
+                }
+                Node::Feature(receiver, _name) => self = receiver.into_inner(),
+                Node::Call(_kind, receiver, _name, arguments) => {
+                    drop(arguments);
+                    self = receiver.into_inner();
+                }
+                Node::Unary(_operator, operand) => {
+                    drop(operand);
+                    return;
+                }
+                Node::If(condition, yes, no) => {
+                    drop(condition);
+                    drop(yes);
+                    drop(no);
+                    return;
+                }
+                Node::Let(_name, value, body) => {
+                    drop(value);
+                    drop(body);
+                    return;
+                }
+                Node::Collection(_kind, elements) => {
+                    drop(elements);
+                    return;
+                }
+                Node::Literal(_owner, _enumeration, _name) => return,
+                Node::Variable(_name) => return,
+                Node::Integer(_value) => return,
+                Node::Text(_value) => return,
+                Node::Constant(_value) => return,
+            }
+        }
+    }
 }
 
 /// An argument of a service.
@@ -199,9 +241,9 @@ mod tests {
         let alloc = rt.alloc();
         let name = Text::from_str(alloc, "a")?;
         let sum = Node::binary(alloc, Binary::Add, Node::integer(1), Node::variable(name))?;
-        assert!(rt; matches!(sum, Node::Binary(Binary::Add, _, _)));
+        assert!(rt; matches!(&sum, Node::Binary(Binary::Add, _, _)));
         let not = Node::unary(alloc, Unary::Not, Node::constant(Constant::True))?;
-        assert!(rt; matches!(not, Node::Unary(Unary::Not, _)));
+        assert!(rt; matches!(&not, Node::Unary(Unary::Not, _)));
         Ok(())
     }
 
@@ -214,7 +256,7 @@ mod tests {
             Node::integer(1),
             Node::integer(2),
         )?;
-        assert!(rt; matches!(node, Node::If(_, _, _)));
+        assert!(rt; matches!(&node, Node::If(_, _, _)));
         Ok(())
     }
 
@@ -223,7 +265,7 @@ mod tests {
         let alloc = rt.alloc();
         let name = Text::from_str(alloc, "d")?;
         let node = Node::let_in(alloc, name, Node::integer(1), Node::integer(2))?;
-        assert!(rt; matches!(node, Node::Let(_, _, _)));
+        assert!(rt; matches!(&node, Node::Let(_, _, _)));
         Ok(())
     }
 
@@ -232,7 +274,7 @@ mod tests {
         let alloc = rt.alloc();
         let name = Text::from_str(alloc, "b")?;
         let node = Node::feature(alloc, Node::integer(1), name)?;
-        assert!(rt; matches!(node, Node::Feature(_, _)));
+        assert!(rt; matches!(&node, Node::Feature(_, _)));
         Ok(())
     }
 
@@ -243,7 +285,7 @@ mod tests {
         list.push(Argument::Expression(Boxed::new(alloc, Node::integer(3))?))?;
         let name = Text::from_str(alloc, "e")?;
         let call = Node::call(alloc, CallKind::Arrow, Node::integer(1), name, list)?;
-        assert!(rt; matches!(call, Node::Call(CallKind::Arrow, _, _, _)));
+        assert!(rt; matches!(&call, Node::Call(CallKind::Arrow, _, _, _)));
         Ok(())
     }
 
@@ -252,7 +294,7 @@ mod tests {
         let mut elements = Items::new(rt.alloc());
         elements.push(Node::integer(3))?;
         let all = Node::collection(CollectionKind::Sequence, elements);
-        assert!(rt; matches!(all, Node::Collection(CollectionKind::Sequence, _)));
+        assert!(rt; matches!(&all, Node::Collection(CollectionKind::Sequence, _)));
         Ok(())
     }
 }

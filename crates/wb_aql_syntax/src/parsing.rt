@@ -91,4 +91,16 @@ mod tests {
         assert!(rt; matches!(sum.node(), Node::Binary(Binary::Add, _, _)));
         Ok(())
     }
+
+    #[test]
+    fn a_chain_takes_no_stack(rt: HostRuntime) -> Result<(), Fail> {
+        let alloc = rt.alloc();
+        let mut text = Vec::new(alloc);
+        for _link in 0..100_000 {
+            text.extend_from_slice(b"a.b()+".as_slice())?;
+        }
+        text.push(b'1')?;
+        assert_eq!(rt; refusal_of(alloc, text.as_slice()), None);
+        Ok(())
+    }
 }
