@@ -1,12 +1,12 @@
 -- The canonical spelling of a tree whose names, integers and texts are within their bounds has its canonical tokens.
-use Rattle.std.proofs.Common.{◌≡◌, ℕ, List, [], ◌∷◌, ◌++◌, Bool, true, false, inl, inr, refl, sym, ap, ◌∙◌, subst, append_assoc, append-nil}
+use Rattle.std.proofs.Common.{◌≡◌, ℕ, List, [], ◌∷◌, ◌++◌, Bool, true, false, inl, inr, refl, sym, subst, append_assoc, append-nil}
 use Rattle.std.specs.Prelude.{⊤}
 use Rattle.std.specs.List.{list_all}
 use Rattle.std.proofs.lemmas.Bool.{and_parts}
 use Rattle.wb_aql_syntax.specs.Tree.{Tree, Trees, Arguments, no_trees, trees, no_arguments, lambda, type_named, expression}
 use Rattle.wb_aql_syntax.specs.Tree as t
 use Rattle.wb_aql_syntax.specs.Lexes.{is_within, Lexes}
-use Rattle.wb_aql_syntax.specs.Canonical.{Piece, blank, token, mark, apart, prefix, prefix_of, left_of, right_of, sign_of, link_of, comma_if, enclosed, stands, standing, tightness, pieces, element_pieces, argument_pieces, tokens_in, canon}
+use Rattle.wb_aql_syntax.specs.Canonical.{Piece, blank, token, mark, apart, left_of, right_of, sign_of, enclosed, stands, standing, tightness, pieces, element_pieces, argument_pieces, tokens_in, canon}
 use Rattle.wb_aql_syntax.specs.Printed.{printed, is_writable}
 use Rattle.wb_aql_syntax.specs.declared.token.Token.{Token}
 use Rattle.wb_aql_syntax.specs.declared.token.Token.TheVariants.{Sign, Name, Integer, Quoted}

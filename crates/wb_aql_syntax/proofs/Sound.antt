@@ -1,5 +1,5 @@
 -- A tree that is read from tokens within their bounds has a canonical spelling of such tokens.
-use Rattle.std.proofs.Common.{◌≡◌, ℕ, List, [], ◌∷◌, ◌++◌, Bool, true, false, refl, sym, ap, ◌∙◌}
+use Rattle.std.proofs.Common.{◌≡◌, ℕ, List, [], ◌∷◌, ◌++◌, Bool, true, false, refl}
 use Rattle.std.specs.Prelude.{⊤}
 use Rattle.std.specs.List.{list_all}
 use Rattle.std.proofs.lemmas.Bool.{and_parts, and_from}
@@ -8,10 +8,10 @@ use Rattle.wb_aql_syntax.specs.Tree as t
 use Rattle.wb_aql_syntax.specs.Grammar.{Phrase, Expr, Implies, Or, Xor, And, Neg, Cmp, Sum, Term, Unary, Post, Atom, ImpliesMore, OrMore, XorMore, AndMore, CmpMore, SumMore, TermMore, PostMore, Named, Featured, CallArguments, Argument, ArgumentMore, Elements, Element, ElementMore, Bound, Rest, done, sign, name, phrase, opening, last, inside, Line, Takes, Reads, reads_done, reads_sign, reads_name, reads_phrase, reads_opening, Spells}
 use Rattle.wb_aql_syntax.specs.Grammar as g
 use Rattle.wb_aql_syntax.specs.Lexes.{is_within}
-use Rattle.wb_aql_syntax.specs.Canonical.{Piece, blank, token, mark, apart, prefix, prefix_of, left_of, right_of, sign_of, link_of, word_of_constant, word_of_kind, comma_if, enclosed, stands, standing, tightness, pieces, element_pieces, argument_pieces, tokens_in, canon}
+use Rattle.wb_aql_syntax.specs.Canonical.{Piece, blank, token, mark, apart, prefix, prefix_of, left_of, right_of, sign_of, link_of, comma_if, enclosed, stands, standing, tightness, pieces, element_pieces, argument_pieces, tokens_in}
 use Rattle.wb_aql_syntax.specs.Printed.{is_writable}
 use Rattle.wb_aql_syntax.specs.declared.token.Token.{Token}
-use Rattle.wb_aql_syntax.specs.declared.token.Token.TheVariants.{Sign, Name, Integer, Quoted}
+use Rattle.wb_aql_syntax.specs.declared.token.Token.TheVariants.{Name, Integer, Quoted}
 use Rattle.wb_aql_syntax.specs.declared.token.Sign.TheVariants as s
 use Rattle.wb_aql_syntax.specs.declared.expr.Unary.{Unary as UnaryOperator}
 use Rattle.wb_aql_syntax.specs.declared.expr.Unary.TheVariants as u

@@ -1,15 +1,13 @@
 -- The bytes of a canonical spelling have its tokens: no token is lengthened by what stands right behind it.
-use Rattle.std.proofs.Common.{◌≡◌, ℕ, zero, suc, ◌+◌, ◌≤◌, ◌<◌, ◌^◌, List, [], ◌∷◌, ◌++◌, length, Bool, true, false, inl, inr, ◌⊎◌, refl, sym, ap, ◌∙◌, subst, arith, append_assoc, flat_map}
-use Rattle.std.specs.Prelude.{Some, ◌||◌, ◌&&◌, not, ◌==◌, ⊤}
+use Rattle.std.proofs.Common.{◌≡◌, ℕ, suc, ◌+◌, List, [], ◌∷◌, ◌++◌, length, Bool, true, false, inl, inr, ◌⊎◌, refl, sym, ap, subst, arith, flat_map}
+use Rattle.std.specs.Prelude.{Some, not, ⊤}
 use Rattle.std.specs.Fmt.{decimal}
-use Rattle.std.specs.List.{list_all}
-use Rattle.std.specs.Str.{byte}
 use Rattle.std.proofs.lemmas.Fmt.{decimal_is_IsNumeral}
-use Rattle.std.proofs.lemmas.Bool.{and_parts, cases_eq, ne_eqb, leb-true}
-use Rattle.wb_aql_syntax.specs.Lexes.{word_of, is_name, is_raw, escape_of, Means, means_none, means_raw, means_escaped, Quotes, Spelling, is_within, largest_integer, Lexes, lexes_end, lexes_blank}
+use Rattle.std.proofs.lemmas.Bool.{cases_eq, ne_eqb, leb-true}
+use Rattle.wb_aql_syntax.specs.Lexes.{word_of, escape_of, Means, means_none, means_raw, means_escaped, Spelling, is_within, largest_integer, Lexes, lexes_end, lexes_blank}
 use Rattle.wb_aql_syntax.specs.Lexer.{first_start}
 use Rattle.wb_aql_syntax.specs.Apart.{lengthens_sign, lengthens, ends_before}
-use Rattle.wb_aql_syntax.specs.Canonical.{Piece, blank, token, mark, tokens_in}
+use Rattle.wb_aql_syntax.specs.Canonical.{Piece, blank, token, tokens_in}
 use Rattle.wb_aql_syntax.specs.Printed.{escaped, bytes_of, bytes_in}
 use Rattle.wb_aql_syntax.specs.declared.characters.Start.{Start}
 use Rattle.wb_aql_syntax.specs.declared.characters.Start.TheVariants as b

@@ -1,10 +1,8 @@
 -- One piece written after another.
-use Rattle.std.proofs.Common.{◌≡◌, ℕ, List, [], ◌∷◌, ◌++◌, refl, sym, ap, ◌∙◌, append_assoc, append-nil, String, string_bytes, Global}
-use Rattle.std.specs.Prelude.{Result, Ok, Err, is_ok, OnOk, if◌then◌else◌}
+use Rattle.std.proofs.Common.{◌≡◌, ℕ, List, [], ◌++◌, refl, sym, ap, ◌∙◌, append_assoc, append-nil}
 use Rattle.std.proofs.lemmas.List.Concat.{flat_map-append}
-use Rattle.wb_aql_syntax.specs.declared.token.Token.{Token}
-use Rattle.wb_aql_syntax.specs.Canonical.{Piece, blank, token}
-use Rattle.wb_aql_syntax.specs.Printed.{bytes_of, piece_bytes, bytes_in, Wrote}
+use Rattle.wb_aql_syntax.specs.Canonical.{Piece}
+use Rattle.wb_aql_syntax.specs.Printed.{piece_bytes, bytes_in}
 
 pub bytes_append : (ps qs : List Piece) → bytes_in (ps ++ qs) ≡ bytes_in ps ++ bytes_in qs
 unfolding bytes_in

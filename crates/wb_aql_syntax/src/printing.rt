@@ -64,9 +64,15 @@ mod tests {
         ];
         for (text, printed) in rows {
             let found = canonical(alloc, text)?;
-            assert!(rt; matches!(&found, Some(found) if found.as_str() == printed), "{text}");
+            assert!(rt;
+                matches!(&found, Some(found) if found.as_str() == printed),
+                "{text}"
+            );
             let again = canonical(alloc, printed)?;
-            assert!(rt; matches!(&again, Some(again) if again.as_str() == printed), "{printed}");
+            assert!(rt;
+                matches!(&again, Some(again) if again.as_str() == printed),
+                "{printed}"
+            );
         }
         Ok(())
     }

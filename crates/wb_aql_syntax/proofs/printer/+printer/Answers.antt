@@ -1,10 +1,10 @@
-use Rattle.std.proofs.Common.{rules, arith, ◌≡◌, ◌<◌, ◌≤◌, ◌+◌, ◌*◌, suc, [], ◌∷◌, ◌++◌, true, false, drop, string_bytes, refl, sym, ap, ◌∙◌, subst}
+use Rattle.std.proofs.Common.{rules, arith, ◌≡◌, ◌≤◌, ◌+◌, suc, [], ◌∷◌, ◌++◌, true, false, drop, string_bytes, refl, sym, ap, ◌∙◌, subst}
 use Rattle.std.proofs.lemmas.List.{drop_more, drop_all}
 use Rattle.std.proofs.lemmas.Result.{on_ok_weaker}
 use Rattle.wb_aql_syntax.specs.Tree.{Tree, no_trees, trees, no_arguments, lambda, type_named, expression}
 use Rattle.wb_aql_syntax.specs.Tree as tree
 use Rattle.wb_aql_syntax.specs.View.{tree_of, trees_in, arguments_in}
-use Rattle.wb_aql_syntax.specs.Canonical.{blank, token, mark, apart, prefix, prefix_of, left_of, right_of, sign_of, link_of, word_of_constant, word_of_kind, comma_if, enclosed, standing, stands, tightness, pieces, element_pieces, argument_pieces}
+use Rattle.wb_aql_syntax.specs.Canonical.{blank, token, mark, apart, prefix, comma_if, enclosed, standing, stands, tightness, pieces, element_pieces, argument_pieces}
 use Rattle.wb_aql_syntax.specs.Printed.{bytes_in, Wrote}
 use Rattle.wb_aql_syntax.specs.declared.token.Token.TheVariants.{Name}
 use Rattle.wb_aql_syntax.specs.declared.token.Sign.TheVariants as s
