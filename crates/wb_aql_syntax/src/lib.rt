@@ -8,8 +8,6 @@ mod laws;
 mod level;
 mod lexer;
 mod lexer_laws;
-#[cfg(test)]
-mod lexer_tests;
 mod quotes;
 mod reading;
 mod signs;
@@ -24,3 +22,6 @@ pub use lexer_laws::{
 };
 pub use token::{Sign, Token};
 pub use wb_base::Text;
+
+#[cfg(test)]
+mod lexer_tests;
