@@ -50,3 +50,6 @@ pub use text_laws::{
 };
 pub use token::{Sign, Token};
 pub use wb_base::Text;
+
+#[cfg(test)]
+mod lexer_tests;
