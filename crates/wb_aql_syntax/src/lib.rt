@@ -16,8 +16,6 @@ mod postfix;
 mod printer;
 mod printing;
 mod printing_laws;
-#[cfg(test)]
-mod lexer_tests;
 mod quotes;
 mod reading;
 mod refusal;
