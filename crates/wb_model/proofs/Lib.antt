@@ -23,6 +23,7 @@ pub mod Maps
 pub mod Members
 pub mod MoveSteps
 pub mod OtherFeatures
+pub mod PlainFeatures
 pub mod RecordEdits
 pub mod Rehoused
 pub mod Relinked
