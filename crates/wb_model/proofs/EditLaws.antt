@@ -1,5 +1,5 @@
 -- What is true of every edit that is accepted.
-use Rattle.std.proofs.Common.{◌≡◌, ℕ, ◌≤◌, Bool, true, false, not, List, [], ◌∷◌, ◌++◌, length, Option, Some, None, refl, sym, ap, subst, ◌∙◌, cond, arith, inl, inr, ⊎_elim, append-nil}
+use Rattle.std.proofs.Common.{◌≡◌, ℕ, ◌<◌, ◌≤◌, Bool, true, false, not, List, [], ◌∷◌, ◌++◌, length, Option, Some, None, refl, sym, ap, subst, ◌∙◌, cond, arith, inl, inr, ⊎_elim, append-nil, ◌↔◌}
 use Rattle.std.proofs.lemmas.Bool.{false≢true, not_from_true, or_right}
 use Rattle.std.specs.Prelude.{filter, IsSome, Ok}
 use Rattle.std.specs.List.{list_any, flat_map}
@@ -11,10 +11,11 @@ use Rattle.wb_model.specs.declared.scalars.Place.TheVariants.{Root, In as Inside
 use Rattle.wb_model.specs.declared.refusals.ModelRefusal.TheVariants.{UnknownObject}
 use Rattle.wb_model.specs.Contents.{Contents, kind, slot, has_object}
 use Rattle.wb_model.specs.Cells.{tree}
-use Rattle.wb_model.specs.Valid.{opposite, IsValid}
+use Rattle.wb_model.specs.Valid.{opposite, Within, IsValid}
 use Rattle.wb_model.specs.Edits.{Link, link, relink, both_ends, change, is_at, same_link, gives_way, leads_to, touches, stands, is_among, is_value_among, is_live, link_up, unlink, emptied, moved, removed, created, with_object, without_root, refusal_of_link, refusal_of_take, refusal_of_unset, refusal_of_move, refusal_of_create, set, add, take_out, unset, move_to, remove}
-use Rattle.wb_model.specs.EditLaws.{IsEdited, KeepsOrder, NumbersAreFresh, GoesWith, IsNowhere}
+use Rattle.wb_model.specs.EditLaws.{IsEdited, AreEdited, KeepsOrder, NumbersAreFresh, GoesWith, IsNowhere}
 use Rattle.wb_model.specs.EditLaws.IsEdited.{by_set, by_add, by_take, by_unset, by_move, by_remove, by_create}
+use Rattle.wb_model.specs.EditLaws.AreEdited.{by_none, by_more}
 use Rattle.wb_model.proofs.Changed.{IsAlone, alone-ends, both-same, relink-Stands}
 use Rattle.wb_model.proofs.EditSteps.{relink-agree, relink-none, same_link-is}
 use Rattle.wb_model.proofs.Ends.{ends-cases, opposite-back}
@@ -30,7 +31,7 @@ use Rattle.wb_model.proofs.Members.{In}
 use Rattle.wb_model.proofs.Members.In.{here, there}
 use Rattle.wb_model.proofs.Relinked.{values_at, is_at-link, slot-relink}
 use Rattle.wb_model.proofs.Sound.{Stands, stands-In, In-stands, absent, Sound}
-use Rattle.wb_model.proofs.TreesWithin.{tree-within, within-tree, among-In, In-among}
+use Rattle.wb_model.proofs.TreesWithin.{tree-decides, tree-within, within-tree, among-In, In-among}
 
 -- ---- validity
 
@@ -80,6 +81,16 @@ same_metamodel m n (by_unset o f h) = let a = accepted (refusal_of_unset m o f) 
 same_metamodel m n (by_move o p f h) = let a = accepted (refusal_of_move m o p f) (moved o p f m) n h in ap (λ (k : Contents). k.metamodel) (sym a.1) ∙ metamodel-moved m o p f
 same_metamodel m n (by_remove o h) = let a = accepted (cond (is_live m o) None (Some UnknownObject)) (removed o m) n h in ap (λ (k : Contents). k.metamodel) (sym a.1) ∙ metamodel-removed m o
 same_metamodel m n (by_create class place h) = let a = accepted (refusal_of_create m class place) (created class place m) n h in ap (λ (k : Contents). k.metamodel) (sym a.1) ∙ metamodel-created m class place
+
+-- ---- many edits
+
+pub same_metamodel-many : (m n : Contents) → AreEdited m n → n.metamodel ≡ m.metamodel
+same_metamodel-many m n by_none = refl
+same_metamodel-many m n (by_more {k = k} r e) = same_metamodel k n e ∙ same_metamodel-many m k r
+
+pub kept-many : (m n : Contents) → WellFormed m.metamodel → IsValid m → AreEdited m n → IsValid n
+kept-many m n well v by_none = v
+kept-many m n well v (by_more {k = k} r e) = kept k n (subst WellFormed (sym (same_metamodel-many m k r)) well) (kept-many m k well v r) e
 
 -- ---- opposites agree
 
@@ -261,6 +272,23 @@ numbers-fresh m n (by_move o p f h) = subst (NumbersAreFresh m) (accepted (refus
 numbers-fresh m n (by_remove o h) = subst (NumbersAreFresh m) (accepted (cond (is_live m o) None (Some UnknownObject)) (removed o m) n h).1 (fresh-removed m o)
 numbers-fresh m n (by_create class place h) = subst (NumbersAreFresh m) (accepted (refusal_of_create m class place) (created class place m) n h).1 (fresh-created m class place)
 
+none-of : (r : Option ℕ) → (IsSome r → ⊥) → r ≡ None
+none-of None f = refl
+none-of (Some c) f = absurd (f refl)
+
+next-grows : (m n : Contents) → AreEdited m n → m.next ≤ n.next
+next-grows m n by_none = omega arith
+next-grows m n (by_more {k = k} r e) = let before = next-grows m k r in let after = (numbers-fresh k n e).never_falls in omega arith
+
+-- a number that was given, and is no longer that of an object, is never given again
+pub dead-stays : (m n : Contents) → AreEdited m n → (o : ℕ) → o < m.next → kind m o ≡ None → kind n o ≡ None
+dead-stays m n by_none o below none = none
+dead-stays m n (by_more {k = k} r e) o below none =
+    none-of (kind n o) (λ live.
+    let given = ((numbers-fresh k n e).fresh o live (dead-stays m k r o below none)).0 in
+    let grown = next-grows m k r in
+    absurd (omega arith))
+
 -- ---- what changes nothing
 
 module _ (m : Contents) (s : Sound m) where
@@ -307,3 +335,8 @@ module _ (m n : Contents) (v : IsValid m) where
 
   pub unset-same : (o f : ℕ) → slot m o f ≡ [] → unset m o f ≡ Ok n → n ≡ m
   unset-same o f h e = sym (accepted (refusal_of_unset m o f) (emptied o f m) n e).1 ∙ emptied-same m (sound m v) o f h
+
+-- ---- trees
+
+pub trees-within : (m : Contents) → IsValid m → (o p : ℕ) → (is_among (tree m o) p ≡ true) ↔ Within m o p
+trees-within m v o p = tree-decides m (sound m v) (housed m v).no_ring o p

@@ -26,6 +26,7 @@ pub mod Marked
 pub mod Members
 pub mod MoveSteps
 pub mod OtherFeatures
+pub mod PlainFeatures
 pub mod RecordEdits
 pub mod Rehoused
 pub mod Relinked

@@ -1,5 +1,5 @@
 -- The tree of an object is what it contains, directly or through others.
-use Rattle.std.proofs.Common.{◌≡◌, ℕ, ◌<◌, ◌≤◌, zero, suc, true, false, not, List, [], ◌∷◌, length, map, sym, subst, ◌∙◌, cond, eqb, arith, ⊎_elim}
+use Rattle.std.proofs.Common.{◌≡◌, ℕ, ◌<◌, ◌≤◌, zero, suc, true, false, not, List, [], ◌∷◌, length, map, sym, subst, ◌∙◌, cond, eqb, arith, ⊎_elim, ◌↔◌}
 use Rattle.std.proofs.lemmas.Bool.{not_from_false, eqb-true, ne_eqb}
 use Rattle.std.proofs.lemmas.Cmp.{nat_cmp_total}
 use Rattle.std.proofs.lemmas.List.{length-map}
@@ -141,3 +141,7 @@ among-In os o h = let r = any_found (λ p. eqb p o) os h in subst (λ z. In z os
 
 pub In-among : (os : List ℕ) (o : ℕ) → In o os → is_among os o ≡ true
 In-among os o i = any_In (λ p. eqb p o) os o i (is_itself o)
+
+-- the tree of an object in a valid model is what stands within it
+pub tree-decides : (m : Contents) → Sound m → NoneIsWithinItself m → (o p : ℕ) → (is_among (tree m o) p ≡ true) ↔ Within m o p
+tree-decides m s none o p = (λ h. tree-within m o p (among-In (tree m o) p h), λ w. In-among (tree m o) p (within-tree m s none o p w))

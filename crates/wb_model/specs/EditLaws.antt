@@ -16,6 +16,11 @@ pub data IsEdited (m n : Contents) : Type 0 where
   by_remove : (o : ℕ) → remove m o ≡ Ok n → IsEdited m n
   by_create : (class : ℕ) (place : Place) → create m class place ≡ Ok n → IsEdited m n
 
+-- the second model is what accepted edits, one after another, make of the first
+pub data AreEdited (m : Contents) : Contents → Type 0 where
+  by_none : AreEdited m m
+  by_more : {k n : Contents} → AreEdited m k → IsEdited k n → AreEdited m n
+
 -- some of the values stay, in their order, and one value at most comes after them
 pub record KeepsOrder (old new : List Scalar) : Type 0 where
   pub stays : Scalar → Bool

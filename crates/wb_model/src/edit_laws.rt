@@ -1,6 +1,6 @@
 //! What is true of every edit that is accepted. These functions do nothing when they run.
 
-ghost use Rattle.std.specs.Prelude.{◌≡◌, ℕ, Bool, true, false, not, [], ◌∷◌, ◌++◌, if◌then◌else◌, Some, Ok, filter};
+ghost use Rattle.std.specs.Prelude.{◌≡◌, ◌≢◌, ◌<◌, ◌↔◌, ℕ, Bool, true, false, not, [], ◌∷◌, ◌++◌, if◌then◌else◌, Some, None, Ok, filter};
 ghost use Rattle.wb_metamodel.specs.WellFormed.{WellFormed};
 ghost use Rattle.wb_model.specs.declared.scalars.Scalar.{Scalar};
 ghost use Rattle.wb_model.specs.declared.scalars.Scalar.TheVariants.{Object};
@@ -8,15 +8,16 @@ ghost use Rattle.wb_model.specs.declared.scalars.Place.{Place};
 ghost use Rattle.wb_model.specs.declared.scalars.Place.TheVariants.{Root, In};
 ghost use Rattle.wb_model.specs.Scalars.{same};
 ghost use Rattle.wb_model.specs.Contents.{Contents, kind, slot, has_object};
-ghost use Rattle.wb_model.specs.Cells.{holder};
-ghost use Rattle.wb_model.specs.Valid.{opposite, IsValid};
-ghost use Rattle.wb_model.specs.Edits.{link, stands, set, add, take_out, unset, move_to, remove, create};
-ghost use Rattle.wb_model.specs.EditLaws.{IsEdited, KeepsOrder, ChangesOnly, NumbersAreFresh, GoesWith, IsNowhere};
+ghost use Rattle.wb_model.specs.Cells.{holder, is_plain, tree};
+ghost use Rattle.wb_model.specs.Valid.{opposite, Within, IsValid};
+ghost use Rattle.wb_model.specs.Edits.{link, stands, is_among, set, add, take_out, unset, move_to, remove, create};
+ghost use Rattle.wb_model.specs.EditLaws.{IsEdited, AreEdited, KeepsOrder, ChangesOnly, NumbersAreFresh, GoesWith, IsNowhere};
 
 /// An edit leaves a valid model, of the same metamodel.
 pub fn edits_keep_models_valid()
     ensures valid { (m n : Contents) → WellFormed m.metamodel → IsValid m → IsEdited m n → IsValid n }
     ensures metamodel { (m n : Contents) → IsEdited m n → n.metamodel ≡ m.metamodel }
+    ensures many { (m n : Contents) → WellFormed m.metamodel → IsValid m → AreEdited m n → IsValid n }
 {}
 
 /// Two objects have each other at opposite features, or neither has.
@@ -29,15 +30,21 @@ pub fn edits_keep_the_order()
     ensures { (m n : Contents) → WellFormed m.metamodel → IsEdited m n → (o f : ℕ) → KeepsOrder (slot m o f) (slot n o f) }
 {}
 
-/// No number is given to two objects.
+/// No number is given to two objects: not by an edit, and not by many.
 pub fn edits_give_new_numbers()
-    ensures { (m n : Contents) → IsEdited m n → NumbersAreFresh m n }
+    ensures fresh { (m n : Contents) → IsEdited m n → NumbersAreFresh m n }
+    ensures never_again { (m n : Contents) → AreEdited m n → (o : ℕ) → o < m.next → kind m o ≡ None → kind n o ≡ None }
 {}
 
 /// A removed object, and all that it contained, is nowhere; the other objects stay.
 pub fn removed_objects_are_nowhere()
     ensures nowhere { (m n : Contents) → WellFormed m.metamodel → IsValid m → (o : ℕ) → remove m o ≡ Ok n → (x : ℕ) → GoesWith m o x → IsNowhere n x }
     ensures others { (m n : Contents) → WellFormed m.metamodel → IsValid m → (o : ℕ) → remove m o ≡ Ok n → (x : ℕ) → ¬ (GoesWith m o x) → kind n x ≡ kind m x }
+{}
+
+/// What is removed with an object is its tree.
+pub fn trees_are_what_is_within()
+    ensures { (m : Contents) → IsValid m → (o p : ℕ) → (is_among (tree m o) p ≡ true) ↔ Within m o p }
 {}
 
 /// Where there is nothing to change, nothing changes.
@@ -69,6 +76,14 @@ pub fn edits_leave_other_features()
 pub fn moved_objects_have_their_container()
     ensures holder { (m n : Contents) → WellFormed m.metamodel → IsValid m → (o p f : ℕ) → move_to m o p f ≡ Ok n → holder n o ≡ Some (p, f) }
     ensures slot { (m n : Contents) → WellFormed m.metamodel → IsValid m → (o p f : ℕ) → move_to m o p f ≡ Ok n → slot n p f ≡ (if stands m (link p f (Object o)) then slot m p f else slot m p f ++ Object o ∷ []) }
+{}
+
+/// To make or move an object changes no plain feature and no other object's class.
+pub fn edits_of_objects_leave_plain_features()
+    ensures create { (m n : Contents) → WellFormed m.metamodel → (class : ℕ) (place : Place) → create m class place ≡ Ok n → (o f : ℕ) → is_plain m.metamodel f ≡ true → slot n o f ≡ slot m o f }
+    ensures move_to { (m n : Contents) → WellFormed m.metamodel → (o p f : ℕ) → move_to m o p f ≡ Ok n → (q g : ℕ) → is_plain m.metamodel g ≡ true → slot n q g ≡ slot m q g }
+    ensures created { (m n : Contents) (class : ℕ) (place : Place) → create m class place ≡ Ok n → (o : ℕ) → o ≢ m.next → kind n o ≡ kind m o }
+    ensures moved { (m n : Contents) (o p f : ℕ) → move_to m o p f ≡ Ok n → (x : ℕ) → kind n x ≡ kind m x }
 {}
 
 /// A new object has the number `next` and its class, and is last among the roots or in its slot.

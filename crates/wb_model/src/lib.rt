@@ -37,8 +37,8 @@ pub use change_list::ChangeList;
 pub use edit_laws::{
     created_objects_have_their_place, edits_change_their_slot, edits_give_new_numbers,
     edits_keep_models_valid, edits_keep_opposites, edits_keep_the_order,
-    edits_leave_other_features, edits_may_change_nothing, moved_objects_have_their_container,
-    removed_objects_are_nowhere,
+    edits_leave_other_features, edits_may_change_nothing, edits_of_objects_leave_plain_features,
+    moved_objects_have_their_container, removed_objects_are_nowhere, trees_are_what_is_within,
 };
 pub use model::{Model, empty};
 pub use parts::{BuildRefusal, Part, SlotPart};
