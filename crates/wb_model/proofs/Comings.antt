@@ -54,7 +54,7 @@ unlink_steps m well l =
 
 -- ---- a link that comes, and then what leaves
 
-any_never : (ls : List Link) → list_any (λ k. false) ls ≡ false
+pub any_never : (ls : List Link) → list_any (λ k. false) ls ≡ false
 any_never [] = refl
 any_never (l ∷ ls) = any_never ls
 
@@ -165,7 +165,7 @@ module _ (m : Contents) (well : WellFormed m.metamodel) (sound : Sound m) where
   stands_from_end l e c st = ⊎_elim (λ s. subst (Stands m) (sym s) st) (λ o. sound.agree e l st (opposed-back m.metamodel well l e o)) c
 
   -- what stands is no end of a link that does not
-  keep_given : (l d : Link) → (Stands m l → ⊥) → Stands m d → (j : Link) → In j (both_ends m.metamodel l) → list_any (same_link d) (both_ends m.metamodel j) ≡ false
+  pub keep_given : (l d : Link) → (Stands m l → ⊥) → Stands m d → (j : Link) → In j (both_ends m.metamodel l) → list_any (same_link d) (both_ends m.metamodel j) ≡ false
   keep_given l d fresh st j i =
       to_false (list_any (same_link d) (both_ends m.metamodel j))
       (λ t.

@@ -1,5 +1,5 @@
 -- What an edit's answer says: a refusal that is told, want of memory, or the model of the definition.
-use Rattle.std.proofs.Common.{◌≡◌, ℕ, Bool, true, false, Option, Some, None, Result, Ok, Err, refl, sym, ap, subst, ◌∙◌, ◌&&◌}
+use Rattle.std.proofs.Common.{◌≡◌, ℕ, Bool, true, false, Option, Some, None, Result, Ok, Err, refl, sym, ap, subst, ◌∙◌, ◌&&◌, List, [], ◌∷◌, ◌++◌}
 use Rattle.std.proofs.lemmas.Bool.{and_parts, false≢true}
 use Rattle.std.specs.Prelude.{IsSome, is_some}
 use Rattle.std.specs.Result.{IsErrAnd}
@@ -8,7 +8,8 @@ use Rattle.wb_model.specs.declared.refusals.ModelRefusal.{ModelRefusal}
 use Rattle.wb_model.specs.declared.refusals.ModelRefusal.TheVariants.{UnknownObject, KindMismatch, UpperBound, ContainmentCycle, AbstractClass, TooManyObjects, IdsSpent, NoMemory}
 use Rattle.wb_model.specs.Contents.{Contents, kind}
 use Rattle.wb_model.specs.Valid.{IsValid, is_of_feature}
-use Rattle.wb_model.specs.Edits.{Link, link, unless, Edited, is_live, is_known_value, is_plain_feature, refusal_of_link}
+use Rattle.wb_model.specs.Edits.{Link, link, unless, Edited, first_refusal, is_live, is_known_value, is_plain_feature, refusal_of_link}
+use Rattle.wb_model.specs.EditChecks.{Tells}
 use Rattle.wb_model.proofs.KeptLinks.{IsAccepted, link-accepted}
 
 -- a refusal of the definition, and the model as before
@@ -70,3 +71,44 @@ edited_valid (Err IdsSpent) edit m n h valid kept = subst IsValid (sym h.1) vali
 pub told_on : {A : Type 0} (refusal : Option ModelRefusal) (r : Result A ModelRefusal) (e : ModelRefusal) (x m : Contents) → IsErrAnd r (λ d. d ≡ e) → Err e ≡ unless refusal (tt {0}) → Edited r (unless refusal x) m m
 told_on refusal (Ok y) e x m p h = absurd p
 told_on {A} refusal (Err d) e x m p h = told A refusal d x m (ap Err p ∙ h)
+
+-- ---- checks one after another
+
+-- a refusal that is the first of the first ones is the first of all
+pub first_some : (xs ys : List (Bool × ModelRefusal)) (e : ModelRefusal) → first_refusal xs ≡ Some e → first_refusal (xs ++ ys) ≡ Some e
+first_some [] ys e h = cc
+first_some ((true, r) ∷ xs) ys e h = h
+first_some ((false, r) ∷ xs) ys e h = first_some xs ys e h
+
+-- where none of the first ones holds, the others count
+pub first_none : (xs ys : List (Bool × ModelRefusal)) → first_refusal xs ≡ None → first_refusal (xs ++ ys) ≡ first_refusal ys
+first_none [] ys h = refl
+first_none ((true, r) ∷ xs) ys h = cc
+first_none ((false, r) ∷ xs) ys h = first_none xs ys h
+
+pub some_told : (refusal : Option ModelRefusal) (e : ModelRefusal) → Err e ≡ unless refusal (tt {0}) → refusal ≡ Some e
+some_told None e h = cc
+some_told (Some r) e h = cc
+
+tells_some : {A : Type 0} (r : Result A ModelRefusal) (e : ModelRefusal) (refusal : Option ModelRefusal) → r ≡ Err e → refusal ≡ Some e → Tells r refusal
+tells_some {A} r e refusal is h = subst (λ r. Tells r refusal) (sym is) (by_case e h)
+  where
+    by_case : (e : ModelRefusal) → refusal ≡ Some e → Tells {A = A} (Err e) refusal
+    by_case UnknownObject h = h
+    by_case KindMismatch h = h
+    by_case UpperBound h = h
+    by_case ContainmentCycle h = h
+    by_case AbstractClass h = h
+    by_case TooManyObjects h = h
+    by_case IdsSpent h = h
+    by_case NoMemory h = tt
+
+-- the refusal of the first checks is passed on
+pub tells_first : {A : Type 0} (r : Result A ModelRefusal) (e : ModelRefusal) (xs ys : List (Bool × ModelRefusal)) → IsErrAnd r (λ d. d ≡ e) → Err e ≡ unless (first_refusal xs) (tt {0}) → Tells r (first_refusal (xs ++ ys))
+tells_first (Ok x) e xs ys p h = absurd p
+tells_first {A} (Err d) e xs ys p h = tells_some {A = A} (Err d) d (first_refusal (xs ++ ys)) refl (first_some xs ys d (some_told (first_refusal xs) d (ap Err p ∙ h)))
+
+-- and so it is, as an equation
+pub unless_first : (r : Result (Unit {0}) ModelRefusal) (e : ModelRefusal) (xs ys : List (Bool × ModelRefusal)) → IsErrAnd r (λ d. d ≡ e) → Err e ≡ unless (first_refusal xs) (tt {0}) → r ≡ unless (first_refusal (xs ++ ys)) (tt {0})
+unless_first (Ok x) e xs ys p h = absurd p
+unless_first (Err d) e xs ys p h = sym (ap (λ r. unless r (tt {0})) (first_some xs ys d (some_told (first_refusal xs) d (ap Err p ∙ h))))

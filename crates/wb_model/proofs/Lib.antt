@@ -45,3 +45,4 @@ pub mod Relinks
 pub mod OtherEnds
 pub mod Comings
 pub mod EditedLemmas
+pub mod Moving

@@ -5,6 +5,7 @@ pub mod Marks
 pub mod Conditions
 pub mod Contents
 pub mod EditLaws
+pub mod EditChecks
 pub mod Edits
 pub mod Flaws
 pub mod LinkSteps

@@ -1,5 +1,5 @@
 -- The steps of which edits are made: one link comes or leaves, at one end alone.
-use Rattle.std.specs.Prelude.{ℕ, Bool, false, List, [], ◌∷◌, Option, Some, None, if◌then◌else◌}
+use Rattle.std.specs.Prelude.{ℕ, Bool, false, List, [], ◌∷◌, ◌++◌, Option, Some, None, if◌then◌else◌}
 use Rattle.std.specs.Option.{option_map_or}
 use Rattle.std.specs.List.{list_any}
 use Rattle.wb_metamodel.specs.Metamodel.{Metamodel}
@@ -46,3 +46,7 @@ first_object _ = None
 -- the object that gives way where another comes to a slot of one value
 abbrev pub gives_place : Contents → ℕ → ℕ → Option ℕ
 gives_place m o f = if is_many m.metamodel f then None else first_object (slot m o f)
+
+-- an object comes last in the roots
+abbrev pub with_root : ℕ → Contents → Contents
+with_root o m = record m { roots = m.roots ++ (o ∷ []) }

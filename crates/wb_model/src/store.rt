@@ -2,8 +2,8 @@ ghost use Rattle.std.specs.Prelude.{◌≡◌, ◌<◌, [], ◌∷◌, length, I
 ghost use Rattle.std.specs.FinMap.{len};
 ghost use Rattle.wb_model.specs.Contents.{kind, slot, empty_contents};
 ghost use Rattle.wb_model.specs.Cells.{holder};
-ghost use Rattle.wb_model.specs.Edits.{link};
-ghost use Rattle.wb_model.specs.LinkSteps.{with_link, with_only, without_link, without_slot};
+ghost use Rattle.wb_model.specs.Edits.{link, without_root};
+ghost use Rattle.wb_model.specs.LinkSteps.{with_link, with_only, without_link, without_slot, with_root};
 
 use crate::arranged::arranged_records;
 use crate::copies::{copy_objects, copy_records};
@@ -14,6 +14,7 @@ use crate::slots::alone;
 use crate::slots_of_objects::{drop_from, push_to, replace_at, take_from};
 use std::alloc::{AllocError, Global};
 use std::marker::Model;
+use std::mem;
 use wb_base::{Duplicate, List};
 use wb_metamodel::{ClassId, FeatureId, Metamodel, ObjectId};
 
@@ -199,6 +200,24 @@ impl Store {
         ensures left { self.new ≡ without_slot o f self.old }
     {
         take_from(alloc, &mut self.records, o, f)
+    }
+
+    /// Puts an object last in the roots.
+    pub fn push_root(&mut self, o: ObjectId) -> Result<(), AllocError>
+        ensures ok { OnOk result (self.new ≡ with_root o self.old) }
+        ensures err { OnErr result (self.new ≡ self.old) }
+    {
+        self.roots.push(o)?;
+        Ok(())
+    }
+
+    /// Takes an object out of the roots.
+    pub fn drop_root(&mut self, alloc: Global, o: ObjectId)
+        ensures { self.new ≡ without_root o self.old }
+    {
+        let mut kept = mem::replace(&mut self.roots, List::new(alloc)).into_vec();
+        kept.retain(|root| *root != o);
+        self.roots = List::from_vec(kept);
     }
 }
 
