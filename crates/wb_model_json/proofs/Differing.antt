@@ -19,9 +19,9 @@ record IsFresh (earlier ns : List ℕ) : Type 0 where
 one_more : (earlier ns : List ℕ) (n : ℕ) → list_any (eqb n) earlier ≡ false → IsFresh (earlier ++ n ∷ []) ns → IsFresh earlier (n ∷ ns)
 one_more earlier ns n is_new rest = record {
   once_each = and_from _ _ (not_from_false _ (false_from_ne_true _ (λ h.
-    let f = any_found (λ other. eqb other n) ns h in
-    let apart = (or_parts _ _ (sym (list_any-append (eqb f.0) earlier (n ∷ [])) ∙ rest.new f.0 f.1)).1 in
-    both_ways _ (or_parts _ _ apart).0 f.2))) rest.once_each;
+      let f = any_found (λ other. eqb other n) ns h in
+      let apart = (or_parts _ _ (sym (list_any-append (eqb f.0) earlier (n ∷ [])) ∙ rest.new f.0 f.1)).1 in
+      both_ways _ (or_parts _ _ apart).0 f.2))) rest.once_each;
   new = λ m i. fresh_at m i;
 }
   where

@@ -163,8 +163,8 @@ are_parts mm text parts h =
     let count = few_enough (length text.objects) one.value (found_coded TooMany (few text.objects) one.value one.is) in
     let differ = differing (map id_of text.objects) (none_at _ two.value (found_coded DuplicateObject (unrepeated text.objects) two.value two.is)) in
     let ids = map-map record_of record_id parts
-        ∙ turn_keeps (in_place (part_for mm)) (λ (e : ℕ × ObjectText). id_of e.1) (λ part. record_id (record_of part)) (λ e part p. (placed_part mm e part p).same_id) (enumerate_from 0 text.objects) parts given
-        ∙ map-enumerated id_of 0 text.objects in
+    ∙ turn_keeps (in_place (part_for mm)) (λ (e : ℕ × ObjectText). id_of e.1) (λ part. record_id (record_of part)) (λ e part p. (placed_part mm e part p).same_id) (enumerate_from 0 text.objects) parts given
+    ∙ map-enumerated id_of 0 text.objects in
     let many = sym (length-map parts record_of) ∙ sym (length-map (map record_of parts) record_id) ∙ ap (λ (ns : List ℕ). length ns) ids ∙ length-map text.objects id_of in
     record {
       known = list_all-map (is_known mm) record_of parts ∙ turn_passes (in_place (part_for mm)) (λ part. is_known mm (record_of part)) (λ e part p. (placed_part mm e part p).known) (enumerate_from 0 text.objects) parts given;

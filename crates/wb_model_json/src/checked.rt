@@ -38,12 +38,7 @@ pub fn unrepeated(alloc: Global, texts: &[ObjectText]) -> Result<(), Wrong>
 }
 
 /// The place of what shows that a condition of this number is broken.
-pub fn breach_at(
-    alloc: Global,
-    texts: &[ObjectText],
-    number: u8,
-    object: Option<ObjectId>,
-) -> Wrong
+pub fn breach_at(alloc: Global, texts: &[ObjectText], number: u8, object: Option<ObjectId>) -> Wrong
     ensures { Gives {A = ⊤} (Err result) (breach_at texts.now number object) }
 {
     match object {

@@ -29,11 +29,7 @@ pub fn parts_for(
     }
 }
 
-fn parts(
-    alloc: Global,
-    metamodel: &Metamodel,
-    texts: &[ObjectText],
-) -> Result<List<Part>, Wrong>
+fn parts(alloc: Global, metamodel: &Metamodel, texts: &[ObjectText]) -> Result<List<Part>, Wrong>
     ensures { Gives result (walked (part_for metamodel.now) texts.now) }
 {
     let mut parts = Vec::new(alloc);

@@ -15,7 +15,7 @@ use wb_metamodel::{Metamodel, ObjectId};
 use wb_model::{BuildRefusal, Model, Part, build};
 
 /// The model over a metamodel that a JSON text is, or what is wrong with it first, and where.
-#[tactic(auto, unfolding(crate::specs::ModelFile::model))]
+
 pub fn read_model(
     alloc: Global,
     metamodel: Metamodel,
@@ -33,11 +33,7 @@ fn read_text(alloc: Global, bytes: &[u8]) -> Result<ModelText, ModelFileRefusal>
     ensures { Answers result (read_text bytes.now) }
 {
     match parse_json(alloc, bytes)? {
-        Some(value) => coded(
-            alloc,
-            ModelCode::BadShape,
-            read_model_text(alloc, &value),
-        ),
+        Some(value) => coded(alloc, ModelCode::BadShape, read_model_text(alloc, &value)),
         None => Err(refused(
             alloc,
             ModelCode::BadJson,
@@ -88,12 +84,7 @@ fn made(
     }
 }
 
-fn broken(
-    alloc: Global,
-    text: &ModelText,
-    number: u8,
-    object: Option<ObjectId>,
-) -> ModelFileRefusal
+fn broken(alloc: Global, text: &ModelText, number: u8, object: Option<ObjectId>) -> ModelFileRefusal
     ensures { Answers {A = Contents} (Err result) (coded (broken_code number) (breach_at text.now.objects number object)) }
 {
     match breach_at(alloc, text.objects.as_slice(), number, object) {
@@ -113,11 +104,7 @@ fn roots_of(alloc: Global, numbers: &[u32]) -> Result<List<ObjectId>, AllocError
 }
 
 /// What was found, under this code.
-fn coded<T>(
-    alloc: Global,
-    code: ModelCode,
-    found: Result<T, Wrong>,
-) -> Result<T, ModelFileRefusal>
+fn coded<T>(alloc: Global, code: ModelCode, found: Result<T, Wrong>) -> Result<T, ModelFileRefusal>
     ensures { (given : _) → Gives found given → Answers result (coded code given) }
 {
     match found {

@@ -113,12 +113,7 @@ fn object_number(number: i64) -> Scalar
     }
 }
 
-fn words_for(
-    alloc: Global,
-    metamodel: &Metamodel,
-    kind: Kind,
-    text: &Text,
-) -> Result<Scalar, Wrong>
+fn words_for(alloc: Global, metamodel: &Metamodel, kind: Kind, text: &Text) -> Result<Scalar, Wrong>
     requires { KindIsKnown metamodel.now kind }
     ensures { Gives result (words_for metamodel.now kind text.now) }
 {
