@@ -12,3 +12,6 @@ mod values;
 
 pub use reading::read_model;
 pub use refusal::{ModelCode, ModelFileRefusal};
+
+#[cfg(test)]
+mod tests;
