@@ -1,0 +1,3 @@
+pub mod ModelFile
+pub mod ModelText
+pub mod Refusals
