@@ -13,6 +13,7 @@ pub mod Links
 pub mod Parts
 pub mod Places
 pub mod Records
+pub mod Removals
 pub mod Roots
 pub mod ScalarLaws
 pub mod Scalars
