@@ -46,3 +46,6 @@ pub mod OtherEnds
 pub mod Comings
 pub mod EditedLemmas
 pub mod Moving
+pub mod Growing
+pub mod Creating
+pub mod Removing

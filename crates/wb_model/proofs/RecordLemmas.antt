@@ -1,6 +1,6 @@
 -- Changes of one slot in a list of objects.
 use Rattle.std.proofs.Common.{◌≡◌, ℕ, ◌<◌, Bool, true, false, ◌&&◌, List, [], ◌∷◌, length, get_or, set, map, Option, Some, None, refl, sym, ap, subst, ◌∙◌, cond, ltb, eqb, arith, suc, zero, Result, Ok, Err}
-use Rattle.std.specs.Prelude.{OnOk, OnErr, IsSome}
+use Rattle.std.specs.Prelude.{OnOk, OnErr, IsSome, is_err}
 use Rattle.std.proofs.lemmas.Bool.{and_parts, eqb-true, false≢true}
 use Rattle.std.specs.Option.{option_map_or}
 use Rattle.std.specs.List.{list_all}
@@ -117,3 +117,7 @@ on_ok (Err e) f p = tt
 pub on_err : {A E : Type 0} {P Q : Type 0} (r : Result A E) → (P → Q) → OnErr r P → OnErr r Q
 on_err (Ok x) f p = tt
 on_err (Err e) f p = f p
+
+pub err_at : {A E : Type 0} {P : Type 0} (r : Result A E) → is_err r ≡ true → OnErr r P → P
+err_at (Ok x) h p = absurd (false≢true h)
+err_at (Err e) h p = p

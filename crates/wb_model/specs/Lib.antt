@@ -15,6 +15,7 @@ pub mod Places
 pub mod RecordEdits
 pub mod Records
 pub mod Rings
+pub mod Removals
 pub mod Roots
 pub mod ScalarLaws
 pub mod Scalars

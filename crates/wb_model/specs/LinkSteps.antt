@@ -1,12 +1,15 @@
 -- The steps of which edits are made: one link comes or leaves, at one end alone.
-use Rattle.std.specs.Prelude.{ℕ, Bool, false, List, [], ◌∷◌, ◌++◌, Option, Some, None, if◌then◌else◌}
+use Rattle.std.specs.Prelude.{◌≡◌, ℕ, suc, nat_eq, Bool, false, List, [], ◌∷◌, ◌++◌, Option, Some, None, if◌then◌else◌}
 use Rattle.std.specs.Option.{option_map_or}
 use Rattle.std.specs.List.{list_any}
+use Rattle.std.specs.FinMap.{insert}
 use Rattle.wb_metamodel.specs.Metamodel.{Metamodel}
 use Rattle.wb_model.specs.declared.scalars.Scalar.{Scalar}
 use Rattle.wb_model.specs.declared.scalars.Scalar.TheVariants.{Object}
+use Rattle.wb_model.specs.declared.records.Slot.{Slot}
 use Rattle.wb_model.specs.Contents.{Contents, slot}
-use Rattle.wb_model.specs.Valid.{is_many}
+use Rattle.wb_model.specs.Records.{values_in}
+use Rattle.wb_model.specs.Valid.{is_many, opposite}
 use Rattle.wb_model.specs.Edits.{Link, link, relink, same_link, is_at, both_ends, change}
 
 -- a link comes last in its slot
@@ -50,3 +53,15 @@ gives_place m o f = if is_many m.metamodel f then None else first_object (slot m
 -- an object comes last in the roots
 abbrev pub with_root : ℕ → Contents → Contents
 with_root o m = record m { roots = m.roots ++ (o ∷ []) }
+
+-- one more object, with these slots
+pub record Grows (class : ℕ) (slots : List Slot) (old new : Contents) : Type 0 where
+  pub metamodel : new.metamodel ≡ old.metamodel
+  pub next : new.next ≡ suc old.next
+  pub roots : new.roots ≡ old.roots
+  pub kinds : new.kinds ≡ insert old.kinds old.next class
+  pub at : (o f : ℕ) → slot new o f ≡ (if nat_eq o old.next then values_in f slots else slot old o f)
+
+-- the slots of a new object that comes into a slot of another
+abbrev pub back_slots : Metamodel → ℕ → ℕ → List Slot
+back_slots metamodel f p = option_map_or (λ g. record { feature = g; values = Object p ∷ [] } ∷ []) (opposite metamodel f) []

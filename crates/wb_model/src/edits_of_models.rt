@@ -1,12 +1,13 @@
-ghost use Rattle.std.specs.Prelude.{◌≡◌, ◌<◌, length};
-ghost use Rattle.wb_model.specs.Edits.{set, add, take_out, unset, Edited};
+ghost use Rattle.std.specs.Prelude.{◌≡◌, ◌<◌, length, IfOk};
+ghost use Rattle.wb_model.specs.EditChecks.{PlaceIsKnown};
+ghost use Rattle.wb_model.specs.Edits.{set, add, take_out, unset, move_to, create, remove, Edited};
 
 use crate::change_list::ChangeList;
 use crate::model::Model;
 use crate::refusals::ModelRefusal;
-use crate::scalars::Scalar;
+use crate::scalars::{Place, Scalar};
 use std::alloc::Global;
-use wb_metamodel::{FeatureId, ObjectId};
+use wb_metamodel::{ClassId, FeatureId, ObjectId};
 
 impl Model {
     /// The slot of a single plain feature becomes the value alone.
@@ -70,5 +71,55 @@ impl Model {
     {
         self.store.metamodel().well_formed();
         self.store.unset(alloc, o, f)
+    }
+
+    /// An object leaves its container, or the roots, and goes last in a containment slot, unless it stands there.
+    pub fn move_to(
+        &mut self,
+        alloc: Global,
+        o: ObjectId,
+        p: ObjectId,
+        f: FeatureId,
+        _log: &mut ChangeList,
+    ) -> Result<(), ModelRefusal>
+        requires { f < length self.old.metamodel.features }
+        ensures { Edited result (move_to self.old o p f) self.old self.new }
+    {
+        self.store.metamodel().well_formed();
+        self.store.move_to(alloc, o, p, f)
+    }
+
+    /// A new object, last in its place. Its number is answered: the one that was next.
+    pub fn create(
+        &mut self,
+        alloc: Global,
+        class: ClassId,
+        place: Place,
+        _log: &mut ChangeList,
+    ) -> Result<ObjectId, ModelRefusal>
+        requires class { class < length self.old.metamodel.classes }
+        requires place { PlaceIsKnown self.old.metamodel place }
+        ensures edited { Edited result (create self.old class place) self.old self.new }
+        ensures number { IfOk result (λ o. o ≡ self.old.next) }
+    {
+        self.store.metamodel().well_formed();
+        let o = ObjectId(self.store.next());
+        match self.store.create(alloc, class, place) {
+            Ok(()) => Ok(o),
+            Err(refusal) => Err(refusal),
+        }
+    }
+
+    /// An object and all that it contains are deleted, with every occurrence of them in every slot.
+    pub fn remove(
+        &mut self,
+        alloc: Global,
+        o: ObjectId,
+        _log: &mut ChangeList,
+    ) -> Result<(), ModelRefusal>
+        ensures { Edited result (remove self.old o) self.old self.new }
+    {
+        self.store.metamodel().well_formed();
+        self.store.remove(alloc, o)
     }
 }

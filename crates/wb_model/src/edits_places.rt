@@ -143,13 +143,13 @@ fn has_number(objects: &[ObjectId], o: ObjectId) -> bool
 }
 
 /// Why an object may not be created.
-pub fn checked_create(store: &Store, class: ClassId, place: Place) -> Result<(), ModelRefusal>
+pub fn checked_create(store: &Store, class: ClassId, place: &Place) -> Result<(), ModelRefusal>
     requires class { class < length store.now.metamodel.classes }
-    requires place { PlaceIsKnown store.now.metamodel place }
-    ensures { result ≡ unless (refusal_of_create store.now class place) tt }
+    requires place { PlaceIsKnown store.now.metamodel place.now }
+    ensures { result ≡ unless (refusal_of_create store.now class place.now) tt }
 {
     if let Place::In(p, f) = place {
-        checked_place(store, class, p, f)?;
+        checked_place(store, class, *p, *f)?;
     }
     checked_new(store, class)
 }

@@ -1,14 +1,18 @@
-ghost use Rattle.std.specs.Prelude.{◌≡◌, ◌<◌, [], ◌∷◌, length, IsSome, IfSome, IfOk, OnOk, OnErr};
+ghost use Rattle.std.specs.Prelude.{◌≡◌, ◌<◌, ◌^◌, ℕ, suc, true, [], ◌∷◌, length, IsSome, IfSome, IfOk, OnOk, OnErr};
 ghost use Rattle.std.specs.FinMap.{len};
 ghost use Rattle.wb_model.specs.Contents.{kind, slot, empty_contents};
 ghost use Rattle.wb_model.specs.Cells.{holder};
-ghost use Rattle.wb_model.specs.Edits.{link, without_root};
-ghost use Rattle.wb_model.specs.LinkSteps.{with_link, with_only, without_link, without_slot, with_root};
+ghost use Rattle.wb_model.specs.Edits.{link, without_root, without};
+ghost use Rattle.wb_model.specs.LinkSteps.{with_link, with_only, without_link, without_slot, with_root, Grows};
+ghost use Rattle.std.specs.List.{list_all};
+ghost use Rattle.wb_model.specs.Places.{rises};
+ghost use Rattle.wb_model.specs.Records.{is_known_slot, feature_of};
 
 use crate::arranged::arranged_records;
 use crate::copies::{copy_objects, copy_records};
 use crate::parts::Part;
-use crate::records::{Record, find_object, holding_object, values_of};
+use crate::records::{Record, Slot, find_object, holding_object, values_of};
+use crate::removals::{drop_from_records, drop_objects, drop_records};
 use crate::scalars::Scalar;
 use crate::slots::alone;
 use crate::slots_of_objects::{drop_from, push_to, replace_at, take_from};
@@ -218,6 +222,31 @@ impl Store {
         let mut kept = mem::replace(&mut self.roots, List::new(alloc)).into_vec();
         kept.retain(|root| *root != o);
         self.roots = List::from_vec(kept);
+    }
+
+    /// Deletes objects, with every occurrence of them.
+    pub fn without(&mut self, alloc: Global, dead: &[ObjectId])
+        ensures { self.new ≡ without dead.now self.old }
+    {
+        drop_records(&mut self.records, dead);
+        drop_from_records(alloc, &mut self.records, dead);
+        drop_objects(alloc, &mut self.roots, dead);
+    }
+
+    /// One more object, with the next number.
+    pub fn push_object(&mut self, class: ClassId, slots: List<Slot>) -> Result<(), AllocError>
+        requires class { class < length self.old.metamodel.classes }
+        requires known { list_all (is_known_slot self.old.metamodel) slots ≡ true }
+        requires rise { rises feature_of slots ≡ true }
+        requires fresh { (o : ℕ) → IsSome (kind self.old o) → o < self.old.next }
+        requires next { suc self.old.next < 2 ^ 32 }
+        ensures ok { OnOk result (Grows class slots self.old self.new) }
+        ensures err { OnErr result (self.new ≡ self.old) }
+    {
+        let id = ObjectId(self.next);
+        self.records.push(Record { id, class, slots })?;
+        self.next += 1;
+        Ok(())
     }
 }
 
