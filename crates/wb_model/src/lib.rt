@@ -15,6 +15,7 @@ mod inverse;
 mod links;
 mod marks;
 mod model;
+mod objects;
 mod parts;
 mod records;
 mod refusals;
