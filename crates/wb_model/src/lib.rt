@@ -24,6 +24,7 @@ mod inverse;
 mod links;
 mod marks;
 mod model;
+mod objects;
 mod parts;
 mod records;
 mod refusals;

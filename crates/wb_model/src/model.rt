@@ -1,5 +1,5 @@
 ghost use Rattle.std.specs.Prelude.{◌≡◌, ◌==◌, ◌<◌, length, IfOk, IfSome};
-ghost use Rattle.std.specs.FinMap.{len};
+ghost use Rattle.std.specs.FinMap.{keys, len};
 ghost use Rattle.wb_model.specs.Contents.{kind, slot, empty_contents};
 ghost use Rattle.wb_model.specs.Cells.{extent, holder, inverse, tree};
 ghost use Rattle.wb_model.specs.Valid.{IsValid};
@@ -125,6 +125,13 @@ impl Model {
         ensures { IfOk result (λ pairs. pairs ≡ inverse self.now o) }
     {
         self.store.inverse(alloc, o)
+    }
+
+    /// The live objects, ascending.
+    pub fn objects(&self, alloc: Global) -> Result<List<ObjectId>, AllocError>
+        ensures { IfOk result (λ os. os ≡ keys self.now.kinds) }
+    {
+        self.store.objects(alloc)
     }
 
     /// The live objects that conform to a class, ascending.
