@@ -15,3 +15,5 @@ pub use refusal::{ModelCode, ModelFileRefusal};
 
 #[cfg(test)]
 mod tests;
+#[cfg(test)]
+mod edit_tests;
