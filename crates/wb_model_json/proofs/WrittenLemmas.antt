@@ -11,7 +11,7 @@ use Rattle.wb_model.specs.declared.scalars.Scalar.TheVariants.{Int, Bool as Bool
 use Rattle.wb_model.specs.Contents.{Contents, kind}
 use Rattle.wb_model.specs.Valid.{is_many}
 use Rattle.std.specs.FinMap.{keys}
-use Rattle.wb_model_json.specs.Written.{scalar_data, single_data, slot_data, named_slots, object_of_class, object_data, number_data, model_data}
+use Rattle.wb_model_json.specs.Written.{scalar_data, single_data, slot_data, named_slots, object_of_class, object_data, row_of_class, row_data, number_data, model_data}
 
 scalar_no_float : (mm : Metamodel) (v : Scalar) → has_float (scalar_data mm v) ≡ false
 scalar_no_float mm (Int z) = integer_no_float z
@@ -35,6 +35,14 @@ slot_no_float mm s =
 object_no_float : (m : Contents) (o : ℕ) (k : Option ℕ) → has_float (object_of_class m o k) ≡ false
 object_no_float m o None = refl
 object_no_float m o (Some c) = ap (λ b. b || false) (members_no_float (slot_data m.metamodel) (slot_no_float m.metamodel) (named_slots m o (features_of m.metamodel c)))
+
+row_of_no_float : (m : Contents) (o : ℕ) (k : Option ℕ) → has_float (row_of_class m o k) ≡ false
+row_of_no_float m o None = refl
+row_of_no_float m o (Some c) = ap (λ b. b || false) (members_no_float (slot_data m.metamodel) (slot_no_float m.metamodel) (named_slots m o (features_of m.metamodel c)))
+
+pub row_no_float : (m : Contents) (o : ℕ) → has_float (row_data m o) ≡ false
+unfolding row_data
+row_no_float m o = row_of_no_float m o (kind m o)
 
 objects_no_float : (m : Contents) (o : ℕ) → has_float (object_data m o) ≡ false
 unfolding object_data

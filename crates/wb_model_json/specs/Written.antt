@@ -62,6 +62,16 @@ object_of_class m o (Some c) =
 unfoldable pub object_data : Contents → ℕ → Data
 object_data m o = object_of_class m o (kind m o)
 
+-- an object alone, as one row of a model that is kept
+abbrev pub row_of_class : Contents → ℕ → Option ℕ → Data
+row_of_class m o None = null
+row_of_class m o (Some c) =
+    object (member (codes "class") (string (class_name m.metamodel c))
+    (member (codes "slots") (slots_data m o c) no_members))
+
+unfoldable pub row_data : Contents → ℕ → Data
+row_data m o = row_of_class m o (kind m o)
+
 abbrev pub number_data : ℕ → Data
 number_data n = number (unsigned n)
 
@@ -74,3 +84,6 @@ model_data m =
 -- the canonical text
 unfoldable pub text_of : Contents → List ℕ
 text_of m = compact_text (model_data m)
+
+unfoldable pub row_text : Contents → ℕ → List ℕ
+row_text m o = compact_text (row_data m o)

@@ -13,7 +13,7 @@ mod writing;
 
 pub use reading::read_model;
 pub use refusal::{ModelCode, ModelFileRefusal};
-pub use writing::write_model;
+pub use writing::{write_model, write_object};
 
 #[cfg(test)]
 mod tests;

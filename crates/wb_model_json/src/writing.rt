@@ -1,10 +1,11 @@
-ghost use Rattle.std.specs.Prelude.{◌≡◌, ◌<◌, ◌∷◌, [], All, length, IfOk, OnOk};
+ghost use Rattle.std.specs.Prelude.{◌≡◌, ◌<◌, ◌∷◌, [], All, length, IfOk, OnOk, IsSome};
 ghost use Rattle.std.specs.FinMap.{keys};
 ghost use Rattle.serde_json.specs.Data.{string};
 ghost use Rattle.serde_json.specs.View.{view, members_view};
 ghost use Rattle.wb_json.specs.ToJson.{list_json, put_all};
 ghost use Rattle.wb_metamodel.specs.Metamodel.{features_of};
-ghost use Rattle.wb_model_json.specs.Written.{text_of, model_data, object_data, object_of_class, slots_data, slot_data, scalar_data, single_data, literal_text, class_name, feature_name, named_slots, number_data};
+ghost use Rattle.wb_model.specs.Contents.{kind};
+ghost use Rattle.wb_model_json.specs.Written.{text_of, row_text, row_data, row_of_class, model_data, object_data, object_of_class, slots_data, slot_data, scalar_data, single_data, literal_text, class_name, feature_name, named_slots, number_data};
 
 use serde_json::{Map, Value, json};
 use std::alloc::{AllocError, Global};
@@ -20,6 +21,40 @@ pub fn write_model(alloc: Global, model: &Model) -> Result<Text, AllocError>
 {
     let value = model_value(alloc, model)?;
     write_json(alloc, &value)
+}
+
+/// The text of one live object: its class and its slots.
+#[tactic(auto, unfolding(crate::specs::Written::row_text), using(crate::proofs::WrittenLemmas::row_no_float))]
+pub fn write_object(alloc: Global, model: &Model, o: ObjectId) -> Result<Text, AllocError>
+    requires { IsSome (kind model.now o) }
+    ensures { IfOk result (λ text. text ≡ row_text model.now o) }
+{
+    let value = row_value(alloc, model, o)?;
+    write_json(alloc, &value)
+}
+
+#[tactic(auto, unfolding(crate::specs::Written::row_data))]
+fn row_value(alloc: Global, model: &Model, o: ObjectId) -> Result<Value, AllocError>
+    ensures { IfOk result (λ value. view value ≡ row_data model.now o) }
+{
+    match model.kind(o) {
+        Some(class) => row_of_class(alloc, model, o, class),
+        None => Ok(Value::Null),
+    }
+}
+
+fn row_of_class(
+    alloc: Global,
+    model: &Model,
+    o: ObjectId,
+    class: ClassId,
+) -> Result<Value, AllocError>
+    requires { class < length model.now.metamodel.classes }
+    ensures { IfOk result (λ value. view value ≡ row_of_class model.now o (Some class)) }
+{
+    let name = class_value(alloc, model.metamodel(), class)?;
+    let slots = slots_value(alloc, model, o, class)?;
+    json!(in alloc; {"class": name, "slots": slots})
 }
 
 #[tactic(auto, unfolding(crate::specs::Written::model_data))]
