@@ -1,3 +1,4 @@
 pub mod Answering
 pub mod Differing
 pub mod PartLemmas
+pub mod WrittenLemmas

@@ -1,3 +1,4 @@
 pub mod ModelFile
 pub mod ModelText
 pub mod Refusals
+pub mod Written

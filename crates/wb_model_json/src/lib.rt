@@ -1,4 +1,4 @@
-//! Model files: models over a metamodel, read from JSON.
+//! Model files: models over a metamodel, as JSON.
 #![tactic(auto)]
 
 mod checked;
@@ -9,9 +9,11 @@ mod reading;
 mod refusal;
 mod repeats;
 mod values;
+mod writing;
 
 pub use reading::read_model;
 pub use refusal::{ModelCode, ModelFileRefusal};
+pub use writing::{write_model, write_object};
 
 #[cfg(test)]
 mod tests;

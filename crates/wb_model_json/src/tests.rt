@@ -1,4 +1,4 @@
-use crate::{ModelCode, ModelFileRefusal, read_model};
+use crate::{ModelCode, ModelFileRefusal, read_model, write_model, write_object};
 use std::alloc::Global;
 use std::process::Abort;
 use std::test::Fail;
@@ -173,5 +173,24 @@ fn is_read_and_copied(rt: HostRuntime) -> Result<(), Fail> {
     );
     let extent = model.extent(alloc, ClassId(1))?;
     assert_eq!(rt; extent.as_slice(), [ObjectId(1), ObjectId(4)].as_slice());
+    Ok(())
+}
+
+#[test]
+fn is_written(rt: HostRuntime) -> Result<(), Fail> {
+    let alloc = rt.alloc();
+    let text =
+        r#"{ "roots":[6,1], "next":7, "objects":[{"id":6,"class":"Author","slots":{"books":[2]}},{"id":1,"class":"Library","slots":{"name":"City","branches":[4],"books":[3]}},{"id":4,"class":"Library","slots":{"books":[2]}},{"id":3,"class":"Book","slots":{"pages":-3,"kind":"essay"}},{"id":2,"class":"Book","slots":{"author":6}}]}"#;
+    let written = write_model(alloc, &read(&rt, alloc, text))?;
+    let wanted =
+        r#"{"next":7,"objects":[{"class":"Library","id":1,"slots":{"books":[3],"branches":[4],"name":"City"}},{"class":"Book","id":2,"slots":{"author":6}},{"class":"Book","id":3,"slots":{"kind":"essay","pages":-3}},{"class":"Library","id":4,"slots":{"books":[2]}},{"class":"Author","id":6,"slots":{"books":[2]}}],"roots":[6,1]}"#;
+    assert_eq!(rt; written.as_str(), wanted);
+    let row = write_object(alloc, &read(&rt, alloc, text), ObjectId(3))?;
+    assert_eq!(rt;
+        row.as_str(),
+        r#"{"class":"Book","slots":{"kind":"essay","pages":-3}}"#
+    );
+    let again = write_model(alloc, &read(&rt, alloc, written.as_str()))?;
+    assert_eq!(rt; again.as_str(), wanted);
     Ok(())
 }
