@@ -22,7 +22,7 @@ fn spelling_of_file(rt: &HostRuntime) -> Result<Option<Text>, AllocError> {
     let mut shelf = FileShelf::new(rt, alloc);
     match env::args(rt) {
         Ok(mut args) => match args.nth(1) {
-            Some(name) => match shelf.take(name.as_bytes())? {
+            Some(name) => match shelf.take(alloc, name.as_bytes())? {
                 Taken::Bytes(bytes) => Ok(Some(spelling_of(alloc, bytes.as_slice())?)),
                 _ => Ok(None),
             },
