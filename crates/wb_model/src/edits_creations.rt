@@ -35,12 +35,7 @@ impl Store {
         Ok(())
     }
 
-    fn create_at(
-        &mut self,
-        alloc: Global,
-        class: ClassId,
-        place: Place,
-    ) -> Result<(), AllocError>
+    fn create_at(&mut self, alloc: Global, class: ClassId, place: Place) -> Result<(), AllocError>
         requires valid { IsValid self.old }
         requires class { class < length self.old.metamodel.classes }
         requires place { PlaceIsKnown self.old.metamodel place }

@@ -36,12 +36,7 @@ pub fn checked_move(
 }
 
 // Why an object may not be put into a containment slot, whatever it contains.
-fn checked_room(
-    store: &Store,
-    o: ObjectId,
-    p: ObjectId,
-    f: FeatureId,
-) -> Result<(), ModelRefusal>
+fn checked_room(store: &Store, o: ObjectId, p: ObjectId, f: FeatureId) -> Result<(), ModelRefusal>
     requires { f < length store.now.metamodel.features }
     ensures { result ≡ unless (first_refusal (refusals_before_cycle store.now o p f)) tt }
 {
@@ -120,12 +115,7 @@ fn has_no_room_for(store: &Store, p: ObjectId, f: FeatureId, o: ObjectId) -> boo
 }
 
 // Is it the object, or one that it contains?
-fn is_among_tree(
-    alloc: Global,
-    store: &Store,
-    o: ObjectId,
-    p: ObjectId,
-) -> Result<bool, AllocError>
+fn is_among_tree(alloc: Global, store: &Store, o: ObjectId, p: ObjectId) -> Result<bool, AllocError>
     requires { IsValid store.now }
     ensures { IfOk result (λ among. among ≡ is_among (o ∷ tree store.now o) p) }
 {

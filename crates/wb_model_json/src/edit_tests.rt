@@ -7,15 +7,20 @@ use std::process::Abort;
 use wb_metamodel::{FeatureId, ObjectId, read_metamodel};
 use wb_model::{ChangeList, Model, ModelRefusal, Scalar};
 
-const DESKS: &str = r#"{"package":"office","classes":[{"name":"Desk","features":[{"name":"owner","reference":"Person","opposite":"desk"}]},{"name":"Person","features":[{"name":"desk","reference":"Desk","opposite":"owner"}]}]}"#;
+const DESKS: &str =
+    r#"{"package":"office","classes":[{"name":"Desk","features":[{"name":"owner","reference":"Person","opposite":"desk"}]},{"name":"Person","features":[{"name":"desk","reference":"Desk","opposite":"owner"}]}]}"#;
 
-const DESKS_MODEL: &str = r#"{"next":4,"objects":[{"class":"Desk","id":1,"slots":{"owner":2}},{"class":"Person","id":2,"slots":{"desk":1}},{"class":"Desk","id":3,"slots":{}}],"roots":[1,2,3]}"#;
+const DESKS_MODEL: &str =
+    r#"{"next":4,"objects":[{"class":"Desk","id":1,"slots":{"owner":2}},{"class":"Person","id":2,"slots":{"desk":1}},{"class":"Desk","id":3,"slots":{}}],"roots":[1,2,3]}"#;
 
-const LIBRARY: &str = r#"{"package":"lib","enums":[{"name":"Kind","literals":["novel","essay"]}],"classes":[{"name":"Library","features":[{"name":"name","type":"Text"},{"name":"books","reference":"Book","many":true,"containment":true},{"name":"authors","reference":"Author","many":true,"containment":true},{"name":"members","reference":"Member","many":true,"containment":true},{"name":"loans","reference":"Loan","many":true,"containment":true},{"name":"branches","reference":"Library","many":true,"containment":true}]},{"name":"Book","features":[{"name":"title","type":"Text"},{"name":"pages","type":"Int"},{"name":"kind","type":"Kind"},{"name":"author","reference":"Author","opposite":"books"},{"name":"loans","reference":"Loan","many":true,"opposite":"book"}]},{"name":"Author","features":[{"name":"name","type":"Text"},{"name":"books","reference":"Book","many":true,"opposite":"author"}]},{"name":"Member","features":[{"name":"name","type":"Text"},{"name":"loans","reference":"Loan","many":true,"opposite":"member"}]},{"name":"Loan","features":[{"name":"book","reference":"Book","opposite":"loans"},{"name":"member","reference":"Member","opposite":"loans"}]}]}"#;
+const LIBRARY: &str =
+    r#"{"package":"lib","enums":[{"name":"Kind","literals":["novel","essay"]}],"classes":[{"name":"Library","features":[{"name":"name","type":"Text"},{"name":"books","reference":"Book","many":true,"containment":true},{"name":"authors","reference":"Author","many":true,"containment":true},{"name":"members","reference":"Member","many":true,"containment":true},{"name":"loans","reference":"Loan","many":true,"containment":true},{"name":"branches","reference":"Library","many":true,"containment":true}]},{"name":"Book","features":[{"name":"title","type":"Text"},{"name":"pages","type":"Int"},{"name":"kind","type":"Kind"},{"name":"author","reference":"Author","opposite":"books"},{"name":"loans","reference":"Loan","many":true,"opposite":"book"}]},{"name":"Author","features":[{"name":"name","type":"Text"},{"name":"books","reference":"Book","many":true,"opposite":"author"}]},{"name":"Member","features":[{"name":"name","type":"Text"},{"name":"loans","reference":"Loan","many":true,"opposite":"member"}]},{"name":"Loan","features":[{"name":"book","reference":"Book","opposite":"loans"},{"name":"member","reference":"Member","opposite":"loans"}]}]}"#;
 
-const SMALL: &str = r#"{"next":7,"objects":[{"class":"Library","id":1,"slots":{"authors":[6],"books":[2,3],"loans":[5],"members":[4],"name":"City"}},{"class":"Book","id":2,"slots":{"author":6,"loans":[5],"title":"Dune"}},{"class":"Book","id":3,"slots":{"title":"Emma"}},{"class":"Member","id":4,"slots":{"loans":[5],"name":"Ann"}},{"class":"Loan","id":5,"slots":{"book":2,"member":4}},{"class":"Author","id":6,"slots":{"books":[2],"name":"Herbert"}}],"roots":[1]}"#;
+const SMALL: &str =
+    r#"{"next":7,"objects":[{"class":"Library","id":1,"slots":{"authors":[6],"books":[2,3],"loans":[5],"members":[4],"name":"City"}},{"class":"Book","id":2,"slots":{"author":6,"loans":[5],"title":"Dune"}},{"class":"Book","id":3,"slots":{"title":"Emma"}},{"class":"Member","id":4,"slots":{"loans":[5],"name":"Ann"}},{"class":"Loan","id":5,"slots":{"book":2,"member":4}},{"class":"Author","id":6,"slots":{"books":[2],"name":"Herbert"}}],"roots":[1]}"#;
 
-const BRANCHES: &str = r#"{"next":4,"objects":[{"class":"Library","id":1,"slots":{"branches":[2]}},{"class":"Library","id":2,"slots":{"branches":[3]}},{"class":"Library","id":3,"slots":{}}],"roots":[1]}"#;
+const BRANCHES: &str =
+    r#"{"next":4,"objects":[{"class":"Library","id":1,"slots":{"branches":[2]}},{"class":"Library","id":2,"slots":{"branches":[3]}},{"class":"Library","id":3,"slots":{}}],"roots":[1]}"#;
 
 fn opened(rt: &impl Abort, alloc: Global, metamodel: &str, model: &str) -> Model {
     let Ok(metamodel) = read_metamodel(alloc, metamodel.as_bytes()) else {
@@ -46,7 +51,10 @@ fn holds(rt: &impl Abort, model: &Model, object: u32, name: &str, wanted: &[u32]
     let values = model.get(o, feature(rt, model, o, name));
     assert_eq!(rt; values.len(), wanted.len(), "{name} of {object}");
     for (value, number) in values.iter().zip(wanted) {
-        assert!(rt; *value == Scalar::Object(ObjectId(*number)), "{name} of {object}");
+        assert!(rt;
+            *value == Scalar::Object(ObjectId(*number)),
+            "{name} of {object}"
+        );
     }
 }
 
@@ -80,7 +88,13 @@ fn branch_cannot_move_into_its_own_content(rt: HostRuntime) {
     let alloc = rt.alloc();
     let mut model = opened(&rt, alloc, LIBRARY, BRANCHES);
     let branches = feature(&rt, &model, ObjectId(3), "branches");
-    let moved = model.move_to(alloc, ObjectId(2), ObjectId(3), branches, &mut ChangeList::new());
+    let moved = model.move_to(
+        alloc,
+        ObjectId(2),
+        ObjectId(3),
+        branches,
+        &mut ChangeList::new(),
+    );
     assert_eq!(rt; moved, Err(ModelRefusal::ContainmentCycle));
     holds(&rt, &model, 1, "branches", &[2]);
     holds(&rt, &model, 2, "branches", &[3]);

@@ -16,6 +16,6 @@ pub use refusal::{ModelCode, ModelFileRefusal};
 pub use writing::{write_model, write_object};
 
 #[cfg(test)]
-mod tests;
-#[cfg(test)]
 mod edit_tests;
+#[cfg(test)]
+mod tests;

@@ -10,6 +10,6 @@ pub returns : goal.returns
 returns c =
     let s = c.self.inside in
     let roots = c.from_vec.ensures
-        ∙ filter_same _ (λ (root : ℕ). not (eqb root c.args.o)) _ (λ x b f' k. search rules) _ _ c.retain.ensures.filtered
-        ∙ ap (filter (λ (root : ℕ). not (eqb root c.args.o))) (c.into_vec-kept.ensures ∙ c.replace.ensures.value) in
+    ∙ filter_same _ (λ (root : ℕ). not (eqb root c.args.o)) _ (λ x b f' k. search rules) _ _ c.retain.ensures.filtered
+    ∙ ap (filter (λ (root : ℕ). not (eqb root c.args.o))) (c.into_vec-kept.ensures ∙ c.replace.ensures.value) in
     ap (λ (roots : List ℕ). contents_of s.metamodel s.next s.records.items roots) roots ∙ ap (without_root c.args.o) c.self.view_is

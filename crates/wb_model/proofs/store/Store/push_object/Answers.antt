@@ -24,8 +24,8 @@ returns-clause-ok c =
     let s = c.self.inside in
     let fresh = fresh_inside (contents_of s.metamodel s.next s.records.items s.roots) c.args.self.now c.self.view_is c.requires.fresh in
     let after = grown_plain s.metamodel s.next s.records.items s.roots c.args.class c.args.slots c.self.invariant fresh
-        (subst (λ (m : Contents). c.args.class < length m.metamodel.classes) (sym c.self.view_is) c.requires.class)
-        (subst (λ (m : Contents). list_all (is_known_slot m.metamodel) c.args.slots ≡ Rattle.std.proofs.Common.true) (sym c.self.view_is) c.requires.known)
-        c.requires.rise in
+    (subst (λ (m : Contents). c.args.class < length m.metamodel.classes) (sym c.self.view_is) c.requires.class)
+    (subst (λ (m : Contents). list_all (is_known_slot m.metamodel) c.args.slots ≡ Rattle.std.proofs.Common.true) (sym c.self.view_is) c.requires.known)
+    c.requires.rise in
     grows_is c.self.view_is (λ i. contents_of s.metamodel (one_more s.next i) (sym c.in_ok-push.ensures.items i) s.roots)
     (grown s.metamodel s.next s.records.items s.roots c.args.class c.args.slots c.self.invariant fresh after)
