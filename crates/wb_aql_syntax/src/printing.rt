@@ -20,6 +20,7 @@ pub fn print(alloc: Global, e: &Expr) -> Result<Text, AllocError>
 mod tests {
     use super::*;
     use crate::parsing::parse;
+    use std::process::Abort;
     use std::test::Fail;
 
     /// The canonical spelling of what the text spells.
@@ -28,6 +29,16 @@ mod tests {
             Ok(e) => Ok(Some(print(alloc, &e)?)),
             Err(_) => Ok(None),
         }
+    }
+
+    /// The text spells an expression, and this is its canonical spelling.
+    fn is_printed(rt: &impl Abort, alloc: Global, text: &str, printed: &str) -> Result<(), Fail> {
+        let found = canonical(alloc, text)?;
+        assert!(rt;
+            matches!(&found, Some(found) if found.as_str() == printed),
+            "{text}"
+        );
+        Ok(())
     }
 
     #[test]
@@ -63,16 +74,8 @@ mod tests {
             ),
         ];
         for (text, printed) in rows {
-            let found = canonical(alloc, text)?;
-            assert!(rt;
-                matches!(&found, Some(found) if found.as_str() == printed),
-                "{text}"
-            );
-            let again = canonical(alloc, printed)?;
-            assert!(rt;
-                matches!(&again, Some(again) if again.as_str() == printed),
-                "{printed}"
-            );
+            is_printed(&rt, alloc, text, printed)?;
+            is_printed(&rt, alloc, printed, printed)?;
         }
         Ok(())
     }
