@@ -1,5 +1,5 @@
 -- Two arguments are none that a service takes.
-use Rattle.std.proofs.Common.{◌≡◌, false, List, ◌∷◌, refl}
+use Rattle.std.proofs.Common.{◌≡◌, ◌≤◌, false, List, [], ◌∷◌, length, refl, arith}
 use Rattle.wb_aql_syntax.specs.View.{arguments_in}
 use Rattle.wb_aql_syntax.specs.declared.expr.Node.{Node}
 use Rattle.wb_aql_syntax.specs.declared.expr.Argument.{Argument}
@@ -32,3 +32,8 @@ two_do_not_fit p.Lambda (a.Lambda v x) (a.Type r d) es = refl
 two_do_not_fit p.Lambda (a.Lambda v x) (a.Expression z) es = refl
 two_do_not_fit p.Lambda (a.Type q c) f es = refl
 two_do_not_fit p.Lambda (a.Expression x) f es = refl
+
+pub many_do_not_fit : (parameters : Parameters) (es : List (Argument Node)) → 2 ≤ length es → fits parameters (arguments_in es) ≡ false
+many_do_not_fit parameters [] many = absurd (omega (arith, many))
+many_do_not_fit parameters (e ∷ []) many = absurd (omega (arith, many))
+many_do_not_fit parameters (e ∷ f ∷ es) many = two_do_not_fit parameters e f es

@@ -27,12 +27,12 @@ impl Model for Checked {
     ghost use Rattle.std.specs.Prelude.{List, ℕ};
     ghost use Rattle.wb_aql_check.specs.Checked.{HasKnownNames};
     ghost use Rattle.wb_aql_check.specs.declared.checked.Origin.{Origin};
-    ghost use Rattle.wb_aql_check.specs.contracts.checked.Origin as origin;
+    ghost use Rattle.wb_aql_check.specs.contracts.checked.Origin as row;
     ghost use Rattle.std.specs.Coded.{codes};
 
     ghost Value = { Origin × List (List ℕ) };
 
-    ghost coded = { Prim.hlevel (codes, origin.the_row.coded) };
+    ghost coded = { Prim.hlevel (codes, row.the_row.coded) };
 
     ghost view = { λ c. (c.origin, c.scope) };
 
