@@ -1,6 +1,7 @@
 -- The first wrong name of each node, and what the check answers where parts are checked in turn.
 use Rattle.std.proofs.Common.{◌≡◌, ℕ, List, [], ◌∷◌, Option, Some, None, Result, Ok, Err, refl, sym, ap, ◌∙◌, subst}
 use Rattle.std.specs.Option.{option_or}
+use Rattle.std.specs.Result.{IsErrAnd}
 use Rattle.wb_metamodel.specs.Metamodel.{Metamodel}
 use Rattle.wb_aql_syntax.specs.View.{tree_of, trees_in, arguments_in}
 use Rattle.wb_aql_syntax.specs.declared.expr.Node.{Node}
@@ -33,6 +34,15 @@ stopped (r.UnknownService name) first rest h = ap (λ f. option_or f rest) h
 stopped (r.WrongArity name) first rest h = ap (λ f. option_or f rest) h
 stopped (r.UnknownType name) first rest h = ap (λ f. option_or f rest) h
 stopped r.NoMemory first rest h = tt
+
+-- the first has no wrong name, so what is refused of the rest is refused of the whole
+pub skipped : (refusal : CheckRefusal) (first rest : Option CheckRefusal) → first ≡ None → Refuses refusal rest → Refuses refusal (option_or first rest)
+skipped refusal first rest none h = subst (λ f. Refuses refusal (option_or f rest)) (sym none) h
+
+-- a refusal that is passed on
+pub returned : {A : Type 0} (result : Result A CheckRefusal) (refusal : CheckRefusal) (first : Option CheckRefusal) → IsErrAnd result (λ other. other ≡ refusal) → Refuses refusal first → Answers result first
+returned (Ok x) refusal first h r = absurd h
+returned (Err other) refusal first h r = subst (λ y. Refuses y first) (sym h) r
 
 or_none : (first : Option CheckRefusal) → option_or first None ≡ first
 or_none None = refl

@@ -19,6 +19,10 @@ use Rattle.wb_aql_check.specs.declared.refusal.CheckRefusal.TheVariants.{Unknown
 abbrev pub is_in : List (List ℕ) → List ℕ → Bool
 is_in scope name = list_any (λ known. same_name known name) scope
 
+-- each variable of the one scope is in the other
+abbrev pub IsWithin : List (List ℕ) → List (List ℕ) → Type 0
+IsWithin scope larger = (name : List ℕ) → is_in scope name ≡ true → is_in larger name ≡ true
+
 -- has some class a feature of this name?
 abbrev pub is_feature : Metamodel → List ℕ → Bool
 is_feature mm name = list_any (λ (feature : Feature). same_name feature.name name) mm.features
@@ -70,7 +74,7 @@ unless false refusal = Some refusal
 
 -- a service has to be there before it can take wrong arguments
 abbrev pub wrong_service : List ℕ → Arguments → Option (Callee × Parameters) → Option CheckRefusal
-wrong_service name arguments None = Some (UnknownService name)
+wrong_service name _ None = Some (UnknownService name)
 wrong_service name arguments (Some found) = unless (fits found.1 arguments) (WrongArity name)
 
 unfoldable mutual

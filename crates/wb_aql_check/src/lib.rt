@@ -5,6 +5,7 @@ mod arguments;
 mod checked;
 mod checking;
 mod known;
+mod laws;
 mod refusal;
 mod scope;
 mod services;
@@ -13,5 +14,6 @@ mod walk;
 
 pub use checked::{Checked, Origin};
 pub use checking::check;
+pub use laws::{known_in_a_larger_scope, known_names_are_not_wrong};
 pub use refusal::CheckRefusal;
 pub use services::{Callee, Iteration, Parameters, Service, service_named};

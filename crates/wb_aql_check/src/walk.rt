@@ -6,7 +6,9 @@ ghost use Rattle.wb_aql_check.specs.Scopes.{names_of};
 
 use crate::refusal::CheckRefusal;
 use crate::scope::Scope;
-use crate::single_names::{check_class, check_feature, check_literal, check_service, check_variable};
+use crate::single_names::{
+    check_class, check_feature, check_literal, check_service, check_variable,
+};
 use sqlite_items::{Boxed, Items};
 use std::alloc::Global;
 use wb_aql_syntax::{Argument, Node};

@@ -8,7 +8,7 @@ use Rattle.wb_aql_check.specs.Answers.{Answers, Refuses}
 use Rattle.wb_aql_check.specs.Names.{first_wrong, first_wrong_element, first_wrong_argument}
 use Rattle.wb_aql_check.specs.Scopes.{names_of}
 use Rattle.wb_aql_check.proofs.ScopeNames.{names_inner}
-use Rattle.wb_aql_check.proofs.WrongNames.{passed, stopped, wrong_integer, wrong_text, wrong_constant, wrong_variable, wrong_literal, wrong_collection, wrong_unary, wrong_binary, wrong_if, wrong_let, wrong_feature, wrong_call, no_element, element_first, no_argument, argument_first, wrong_lambda, wrong_type, wrong_expression}
+use Rattle.wb_aql_check.proofs.WrongNames.{passed, stopped, skipped, returned, wrong_integer, wrong_text, wrong_constant, wrong_variable, wrong_literal, wrong_collection, wrong_unary, wrong_binary, wrong_if, wrong_let, wrong_feature, wrong_call, no_element, element_first, no_argument, argument_first, wrong_lambda, wrong_type, wrong_expression}
 use Rattle.wb_aql_check.proofs.walk.+check.Goals as goal
 
 -- ---- parts are smaller
@@ -136,7 +136,39 @@ check_node-returns-in_ok-check_service-in-Call t c =
 -- ---- what is refused of a part
 
 pub check_node-returns-in_err-check_node-in-Binary : goal.check_node-returns-in_err-check_node-in-Binary
-check_node-returns-in_err-check_node-in-Binary t c = let h = c.from_residual.ensures in let k = c.in_err-check_node-in-Binary.ensures in ?
+check_node-returns-in_err-check_node-in-Binary t c =
+    returned c.from_residual.result c.in_err-check_node-in-Binary.field-0.0 _ c.from_residual.ensures.1
+    (rw (c.in-Binary.is, wrong_binary, sym c.get-in-Binary.ensures) (stopped _ _ _ c.in_err-check_node-in-Binary.ensures))
+
+pub check_node-returns-in_err-check_node-in-If : goal.check_node-returns-in_err-check_node-in-If
+check_node-returns-in_err-check_node-in-If t c =
+    returned c.from_residual-in_err-check_node-in-If.result c.in_err-check_node-in-If.field-0.0 _ c.from_residual-in_err-check_node-in-If.ensures.1
+    (rw (c.in-If.is, wrong_if, sym c.get-in-If.ensures) (stopped _ _ _ c.in_err-check_node-in-If.ensures))
+
+pub check_node-returns-in_err-check_node-in-If-2 : goal.check_node-returns-in_err-check_node-in-If-2
+check_node-returns-in_err-check_node-in-If-2 t c =
+    returned c.from_residual-in_err-check_node-in-If-2.result c.in_err-check_node-in-If-2.field-0.0 _ c.from_residual-in_err-check_node-in-If-2.ensures.1
+    (rw (c.in-If.is, wrong_if, sym c.get-in-If.ensures, sym c.get-in-If-2.ensures) (skipped _ _ _ c.in_ok-check_node-in-If.ensures (stopped _ _ _ c.in_err-check_node-in-If-2.ensures)))
+
+pub check_node-returns-in_err-check_node-in-Let : goal.check_node-returns-in_err-check_node-in-Let
+check_node-returns-in_err-check_node-in-Let t c =
+    returned c.from_residual-in_err-check_node-in-Let.result c.in_err-check_node-in-Let.field-0.0 _ c.from_residual-in_err-check_node-in-Let.ensures.1
+    (rw (c.in-Let.is, wrong_let, sym c.get-in-Let.ensures) (stopped _ _ _ c.in_err-check_node-in-Let.ensures))
+
+pub check_node-returns-in_err-check_node-in-Feature : goal.check_node-returns-in_err-check_node-in-Feature
+check_node-returns-in_err-check_node-in-Feature t c =
+    returned c.from_residual-in_err-check_node-in-Feature.result c.in_err-check_node-in-Feature.field-0.0 _ c.from_residual-in_err-check_node-in-Feature.ensures.1
+    (rw (c.in-Feature.is, wrong_feature, sym c.get-in-Feature.ensures) (stopped _ _ _ c.in_err-check_node-in-Feature.ensures))
+
+pub check_node-returns-in_err-check_node-in-Call : goal.check_node-returns-in_err-check_node-in-Call
+check_node-returns-in_err-check_node-in-Call t c =
+    returned c.from_residual-in_err-check_node-in-Call.result c.in_err-check_node-in-Call.field-0.0 _ c.from_residual-in_err-check_node-in-Call.ensures.1
+    (rw (c.in-Call.is, wrong_call, sym c.get-in-Call.ensures) (stopped _ _ _ c.in_err-check_node-in-Call.ensures))
+
+pub check_node-returns-in_err-check_service-in-Call : goal.check_node-returns-in_err-check_service-in-Call
+check_node-returns-in_err-check_service-in-Call t c =
+    returned c.from_residual-in_err-check_service-in-Call.result c.in_err-check_service-in-Call.field-0.0 _ c.from_residual-in_err-check_service-in-Call.ensures.1
+    (rw (c.in-Call.is, wrong_call, sym c.get-in-Call.ensures) (skipped _ _ _ c.in_ok-check_node-in-Call.ensures (stopped _ _ _ c.in_err-check_service-in-Call.ensures)))
 
 -- ---- one argument
 
@@ -181,6 +213,18 @@ check_elements-returns t c =
     let none : drop l.element-index xs ≡ [] = drop_all l.element-index xs (omega arith) in
     sym (l.invariant ∙ ap (λ ys. first_wrong_element mm scope (trees_in ys)) c.as_slice-element-items.ensures) ∙ (ap (λ ys. first_wrong_element mm scope (trees_in ys)) none ∙ no_element mm scope)
 
+pub check_elements-returns-in_err-check_node : goal.check_elements-returns-in_err-check_node
+check_elements-returns-in_err-check_node t c =
+    let l = c.loop-element in
+    let xs = c.as_slice-element-items.result.now in
+    let x = c.element-item.result in
+    let here : drop l.element-index xs ≡ x ∷ drop (l.element-index + 1) xs = drop_more xs l.element-index x (omega arith) ∙ ap (λ y. y ∷ drop (l.element-index + 1) xs) (sym c.element-item.is) in
+    let mm = c.args.metamodel.now in
+    let scope = names_of c.args.scope.now in
+    let step = ap (λ ys. first_wrong_element mm scope (trees_in ys)) here ∙ element_first mm scope x (drop (l.element-index + 1) xs) in
+    let all = sym step ∙ (l.invariant ∙ ap (λ ys. first_wrong_element mm scope (trees_in ys)) c.as_slice-element-items.ensures) in
+    returned c.from_residual.result c.in_err-check_node.field-0.0 _ c.from_residual.ensures.1 (subst (λ f. Refuses c.in_err-check_node.field-0.0 f) all (stopped _ _ _ c.in_err-check_node.ensures))
+
 -- ---- arguments
 
 pub check_arguments-check_argument-requires : goal.check_arguments-check_argument-requires
@@ -212,3 +256,15 @@ check_arguments-returns t c =
     let scope = names_of c.args.scope.now in
     let none : drop l.argument-index xs ≡ [] = drop_all l.argument-index xs (omega arith) in
     sym (l.invariant ∙ ap (λ ys. first_wrong_argument mm scope (arguments_in ys)) c.as_slice-argument-items.ensures) ∙ (ap (λ ys. first_wrong_argument mm scope (arguments_in ys)) none ∙ no_argument mm scope)
+
+pub check_arguments-returns-in_err-check_argument : goal.check_arguments-returns-in_err-check_argument
+check_arguments-returns-in_err-check_argument t c =
+    let l = c.loop-argument in
+    let xs = c.as_slice-argument-items.result.now in
+    let x = c.argument-item.result in
+    let here : drop l.argument-index xs ≡ x ∷ drop (l.argument-index + 1) xs = drop_more xs l.argument-index x (omega arith) ∙ ap (λ y. y ∷ drop (l.argument-index + 1) xs) (sym c.argument-item.is) in
+    let mm = c.args.metamodel.now in
+    let scope = names_of c.args.scope.now in
+    let step = ap (λ ys. first_wrong_argument mm scope (arguments_in ys)) here ∙ argument_first mm scope x (drop (l.argument-index + 1) xs) in
+    let all = sym step ∙ (l.invariant ∙ ap (λ ys. first_wrong_argument mm scope (arguments_in ys)) c.as_slice-argument-items.ensures) in
+    returned c.from_residual.result c.in_err-check_argument.field-0.0 _ c.from_residual.ensures.1 (subst (λ f. Refuses c.in_err-check_argument.field-0.0 f) all (stopped _ _ _ c.in_err-check_argument.ensures))
