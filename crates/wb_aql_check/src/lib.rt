@@ -17,3 +17,6 @@ pub use checking::check;
 pub use laws::{known_in_a_larger_scope, known_names_are_not_wrong};
 pub use refusal::CheckRefusal;
 pub use services::{Callee, Iteration, Parameters, Service, service_named};
+
+#[cfg(test)]
+mod tests;
