@@ -1,16 +1,15 @@
 -- An expression knows its names exactly where none of them is wrong, and still knows them where more is in scope.
-use Rattle.std.proofs.Common.{◌≡◌, ◌↔◌, ℕ, Bool, true, false, ◌&&◌, ◌||◌, List, ◌∷◌, Option, Some, None, refl, sym, ap, ap₂, ◌∙◌, subst}
+use Rattle.std.proofs.Common.{◌≡◌, ◌↔◌, ℕ, Bool, true, false, ◌&&◌, ◌||◌, List, ◌∷◌, Option, Some, None, refl, sym, ap, ap₂, ◌∙◌}
 use Rattle.std.specs.Prelude.{is_none}
 use Rattle.std.specs.Option.{option_or, option_map_or}
 use Rattle.std.proofs.lemmas.Bool.{and_parts, and_from, false≢true}
 use Rattle.wb_metamodel.specs.Metamodel.{Metamodel, same_name}
 use Rattle.wb_aql_syntax.specs.Tree.{Tree, Trees, Arguments}
 use Rattle.wb_aql_syntax.specs.Tree as t
-use Rattle.wb_aql_syntax.specs.declared.expr.CallKind.{CallKind}
 use Rattle.wb_aql_check.specs.Checked.{KnownTo}
 use Rattle.wb_aql_check.specs.declared.checked.Origin.{Origin}
 use Rattle.wb_aql_check.specs.declared.checked.Origin.TheVariants as o
-use Rattle.wb_aql_check.specs.Names.{knows, knows_elements, knows_arguments, first_wrong, first_wrong_element, first_wrong_argument, unless, wrong_service, IsWithin, is_in, is_literal, is_feature, is_class, is_call}
+use Rattle.wb_aql_check.specs.Names.{knows, knows_elements, knows_arguments, first_wrong, first_wrong_element, first_wrong_argument, unless, wrong_service, IsWithin, is_in, is_literal, is_feature, is_class}
 use Rattle.wb_aql_check.specs.Services.{service_named, fits}
 use Rattle.wb_aql_check.specs.declared.services.Callee.{Callee}
 use Rattle.wb_aql_check.specs.declared.services.Parameters.{Parameters}

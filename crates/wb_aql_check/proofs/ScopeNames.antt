@@ -1,6 +1,6 @@
 -- The names of each scope.
 use Rattle.std.proofs.Common.{rules, ◌≡◌, ℕ, List, ◌∷◌, Bor}
-use Rattle.wb_aql_check.specs.Scopes.{names_of, scope_step}
+use Rattle.wb_aql_check.specs.Scopes.{names_of}
 use Rattle.wb_aql_check.specs.declared.scope.Scope.{Scope, Outer, Inner, the_lemmas}
 
 pub names_outer : (names : Bor (List (List ℕ))) → names_of (Outer names) ≡ names.now

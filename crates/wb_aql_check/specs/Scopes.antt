@@ -1,5 +1,5 @@
 -- The names in a scope, the nearest first.
-use Rattle.std.specs.Prelude.{ℕ, List, [], ◌∷◌}
+use Rattle.std.specs.Prelude.{ℕ, List, ◌∷◌}
 use Rattle.wb_aql_check.specs.declared.scope.Scope.{Scope, fold-Scope}
 use Rattle.wb_aql_check.specs.declared.scope.Scope.TheOpen.{Scope-F}
 

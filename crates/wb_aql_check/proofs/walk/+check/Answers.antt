@@ -4,8 +4,8 @@ use Rattle.std.specs.Option.{option_or}
 use Rattle.wb_aql_syntax.specs.View.{tree_of, trees_in, arguments_in}
 use Rattle.wb_aql_syntax.proofs.Nodes.{tree_collection, tree_unary, tree_binary, tree_conditional, tree_let_in, tree_feature, tree_call}
 use Rattle.wb_aql_syntax.proofs.Weights.{weight, elements_weight, arguments_weight, next_element, next_argument}
-use Rattle.wb_aql_check.specs.Answers.{Answers, Refuses}
-use Rattle.wb_aql_check.specs.Names.{first_wrong, first_wrong_element, first_wrong_argument}
+use Rattle.wb_aql_check.specs.Answers.{Refuses}
+use Rattle.wb_aql_check.specs.Names.{first_wrong_element, first_wrong_argument}
 use Rattle.wb_aql_check.specs.Scopes.{names_of}
 use Rattle.wb_aql_check.proofs.ScopeNames.{names_inner}
 use Rattle.wb_aql_check.proofs.WrongNames.{passed, stopped, skipped, returned, wrong_integer, wrong_text, wrong_constant, wrong_variable, wrong_literal, wrong_collection, wrong_unary, wrong_binary, wrong_if, wrong_let, wrong_feature, wrong_call, no_element, element_first, no_argument, argument_first, wrong_lambda, wrong_type, wrong_expression}
