@@ -28,11 +28,11 @@ impl Model for Checked {
     ghost use Rattle.wb_aql_check.specs.Checked.{HasKnownNames};
     ghost use Rattle.wb_aql_check.specs.declared.checked.Origin.{Origin};
     ghost use Rattle.wb_aql_check.specs.contracts.checked.Origin as row;
-    ghost use Rattle.std.specs.Coded.{codes};
+    ghost use Rattle.std.specs.Coded.{coded×, coded_list, coded_ℕ};
 
     ghost Value = { Origin × List (List ℕ) };
 
-    ghost coded = { Prim.hlevel (codes, row.the_row.coded) };
+    ghost coded = { coded× row.the_row.coded (coded_list (coded_list coded_ℕ)) };
 
     ghost view = { λ c. (c.origin, c.scope) };
 
