@@ -1,0 +1,16 @@
+ghost use Rattle.std.specs.Prelude.{◌≡◌, ◌↔◌, ℕ, List, None, true};
+ghost use Rattle.wb_metamodel.specs.Metamodel.{Metamodel};
+ghost use Rattle.wb_aql_syntax.specs.Tree.{Tree};
+ghost use Rattle.wb_aql_check.specs.Checked.{KnownTo};
+ghost use Rattle.wb_aql_check.specs.Names.{IsWithin, knows, first_wrong};
+ghost use Rattle.wb_aql_check.specs.declared.checked.Origin.{Origin};
+
+/// Each name is known exactly where none is the first that is not.
+pub fn known_names_are_not_wrong()
+    ensures { (mm : Metamodel) (scope : List (List ℕ)) (x : Tree) → (knows mm scope x ≡ true) ↔ (first_wrong mm scope x ≡ None) }
+{}
+
+/// What was checked keeps its known names where more is in scope.
+pub fn known_in_a_larger_scope()
+    ensures { (mm : Metamodel) (origin : Origin) (scope larger : List (List ℕ)) → IsWithin scope larger → KnownTo mm origin scope → KnownTo mm origin larger }
+{}

@@ -1,0 +1,173 @@
+use crate::{
+    Callee, CheckRefusal, Checked, Origin, Parameters, Service, check, known_in_a_larger_scope,
+    known_names_are_not_wrong, service_named,
+};
+use std::alloc::{AllocError, Global};
+use std::process::Abort;
+use std::test::Fail;
+use wb_aql_syntax::{CallKind, parse};
+use wb_base::{List, Text};
+use wb_metamodel::{ClassId, Metamodel, read_metamodel};
+
+const LIBRARY: &str = r#"
+{"package":"lib","enums":[{"name":"Kind","literals":["novel","essay"]}],"classes":[
+{"name":"Library","features":[{"name":"name","type":"Text"},
+ {"name":"books","reference":"Book","many":true,"containment":true},
+ {"name":"authors","reference":"Author","many":true,"containment":true},
+ {"name":"members","reference":"Member","many":true,"containment":true},
+ {"name":"loans","reference":"Loan","many":true,"containment":true},
+ {"name":"branches","reference":"Library","many":true,"containment":true}]},
+{"name":"Book","features":[{"name":"title","type":"Text"},{"name":"pages","type":"Int"},
+ {"name":"kind","type":"Kind"},{"name":"author","reference":"Author","opposite":"books"},
+ {"name":"loans","reference":"Loan","many":true,"opposite":"book"}]},
+{"name":"Author","features":[{"name":"name","type":"Text"},
+ {"name":"books","reference":"Book","many":true,"opposite":"author"}]},
+{"name":"Member","features":[{"name":"name","type":"Text"},
+ {"name":"loans","reference":"Loan","many":true,"opposite":"member"}]},
+{"name":"Loan","features":[{"name":"book","reference":"Book","opposite":"loans"},
+ {"name":"member","reference":"Member","opposite":"loans"}]}]}"#;
+
+/// The variables in scope, an expression, and what it is refused with.
+const CASES: &str = r#"
+a b ; not (a = b) => known
+a b c ; a implies b implies c => known
+a b c ; (a implies b) implies c => known
+self ; self.books.x(1) => UnknownService x
+self ; self.books->size(1) => WrongArity size
+self ; y => UnknownVariable y
+self ; self.oclIsKindOf(lib::Shop) => UnknownType Shop
+self ; Sequence{1, 'x', null} => known
+self ; Sequence{1, y, z} => UnknownVariable y
+self ; -y => UnknownVariable y
+self ; y + z => UnknownVariable y
+self ; if self.pages > 1 then y else z endif => UnknownVariable y
+self ; if self.pages > 1 then 1 else z endif => UnknownVariable z
+self ; lib::Kind::novel => known
+self ; lib::Kind::poem => UnknownType Kind
+self ; lib::Book::novel => UnknownType Book
+self ; bib::Kind::novel => UnknownType Kind
+self ; let x = self in x.title => known
+self ; let x = x in 1 => UnknownVariable x
+self ; let self = 1 in self => known
+self ; self.books.pages => known
+self ; self.publisher => UnknownFeature publisher
+self ; y.publisher => UnknownVariable y
+self ; self.books->select(b | b.pages > 1)->size() => known
+self ; self.books->select(b | b.weight > 1) => UnknownFeature weight
+self ; self.books->select(b | true)->collect(c | b) => UnknownVariable b
+self ; self.books.select(b | true) => UnknownService select
+self ; self->eContainer() => UnknownService eContainer
+self ; self.x(y) => UnknownService x
+self ; y.x(z) => UnknownVariable y
+self ; self.eContainer(lib::Library) => known
+self ; self.eContainer(lib::Library, 1) => WrongArity eContainer
+self ; self.eContainer(self) => WrongArity eContainer
+self ; self.eInverse(lib::Book) => WrongArity eInverse
+self ; self.oclAsType() => WrongArity oclAsType
+self ; self.concat() => WrongArity concat
+self ; self.concat(lib::Book) => WrongArity concat
+self ; self.concat(y) => UnknownVariable y
+self ; self.books->select(self) => WrongArity select
+self ; self.books->first(b | b) => WrongArity first
+self ; self.eContents(lib::Kind) => UnknownType Kind
+self ; self.eContents(bib::Book) => UnknownType Book
+self ; self.eContents().eAllContents().eInverse().ancestors() => known
+self ; self.siblings().precedingSiblings().followingSiblings() => known
+self ; self.oclIsKindOf(lib::Book) and self.oclIsTypeOf(lib::Book) => known
+self ; self.oclAsType(lib::Book).concat('x').startsWith('x') => known
+self ; self.books->filter(lib::Book)->first() = self.books->last() => known
+self ; self.books->at(1)->isEmpty() or self.books->notEmpty() => known
+self ; self.books->includes(1) or self.books->excludes(1) => known
+self ; self.books->including(1)->excluding(1)->asSequence()->asOrderedSet() => known
+self ; self.books->reject(b | true)->exists(b | true) => known
+self ; self.books->forAll(b | true) = self.books->any(b | true) => known
+"#;
+
+fn library(rt: &impl Abort, alloc: Global) -> Metamodel {
+    match read_metamodel(alloc, LIBRARY.as_bytes()) {
+        Ok(metamodel) => metamodel,
+        Err(refusal) => panic!(rt; "{refusal:?}"),
+    }
+}
+
+fn names(alloc: Global, words: &str) -> Result<List<Text>, AllocError> {
+    let mut names = List::new(alloc);
+    for word in words.split(' ') {
+        names.push(Text::from_str(alloc, word)?)?;
+    }
+    Ok(names)
+}
+
+fn shown(alloc: Global, refusal: &CheckRefusal) -> Result<String, AllocError> {
+    match refusal {
+        CheckRefusal::UnknownVariable(name) => {
+            format!(in alloc; "UnknownVariable {}", name.as_str())
+        }
+        CheckRefusal::UnknownFeature(name) => format!(in alloc; "UnknownFeature {}", name.as_str()),
+        CheckRefusal::UnknownService(name) => format!(in alloc; "UnknownService {}", name.as_str()),
+        CheckRefusal::WrongArity(name) => format!(in alloc; "WrongArity {}", name.as_str()),
+        CheckRefusal::UnknownType(name) => format!(in alloc; "UnknownType {}", name.as_str()),
+        CheckRefusal::NoMemory => format!(in alloc; "NoMemory"),
+    }
+}
+
+fn answer(alloc: Global, metamodel: &Metamodel, words: &str, text: &str) -> Result<String, Fail> {
+    let scope = names(alloc, words)?;
+    let expr = parse(alloc, text.as_bytes())?;
+    match check(alloc, expr, scope.as_slice(), metamodel) {
+        Ok(_) => Ok(format!(in alloc; "known")?),
+        Err(refusal) => Ok(shown(alloc, &refusal)?),
+    }
+}
+
+#[test]
+fn expressions_are_known_or_refused(rt: HostRuntime) -> Result<(), Fail> {
+    let metamodel = library(&rt, rt.alloc());
+    for line in CASES.lines() {
+        if let Some((case, wanted)) = line.split_once(" => ") {
+            if let Some((words, text)) = case.split_once(" ; ") {
+                let found = answer(rt.alloc(), &metamodel, words, text)?;
+                assert_eq!(rt; found.as_str(), wanted, "{text}");
+            }
+        }
+    }
+    Ok(())
+}
+
+#[test]
+fn what_was_checked_is_kept(rt: HostRuntime) -> Result<(), Fail> {
+    let alloc = rt.alloc();
+    let metamodel = library(&rt, alloc);
+    let scope = names(alloc, "self container")?;
+    let expr = parse(alloc, b"self.title".as_slice())?;
+    match check(alloc, expr, scope.as_slice(), &metamodel) {
+        Ok(checked) => {
+            assert!(rt; matches!(checked.origin(), Origin::Expr(_)));
+            assert!(rt; checked.scope() == scope.as_slice());
+        }
+        Err(refusal) => panic!(rt; "{refusal:?}"),
+    }
+    Ok(())
+}
+
+#[test]
+fn an_extent_needs_no_scope(rt: HostRuntime) {
+    let checked = Checked::extent(rt.alloc(), ClassId(1));
+    assert!(rt; matches!(checked.origin(), Origin::Extent(ClassId(1))));
+    assert_eq!(rt; checked.scope().len(), 0);
+    known_names_are_not_wrong();
+    known_in_a_larger_scope();
+}
+
+#[test]
+fn services_are_found_by_their_names(rt: HostRuntime) {
+    let size = service_named(CallKind::Arrow, b"size".as_slice());
+    assert!(rt;
+        matches!(
+            size,
+            Some((Callee::Service(Service::Size), Parameters::Nothing))
+        )
+    );
+    assert!(rt; service_named(CallKind::Dot, b"size".as_slice()).is_none());
+    assert!(rt; service_named(CallKind::Arrow, b"size\xff".as_slice()).is_none());
+}
