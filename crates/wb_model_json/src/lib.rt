@@ -14,8 +14,3 @@ mod writing;
 pub use reading::read_model;
 pub use refusal::{ModelCode, ModelFileRefusal};
 pub use writing::{write_model, write_object};
-
-#[cfg(test)]
-mod edit_tests;
-#[cfg(test)]
-mod tests;
