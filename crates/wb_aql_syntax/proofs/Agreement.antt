@@ -1,11 +1,11 @@
 -- An argument is picked by up to four tokens; what was read agrees with them.
 use Rattle.std.proofs.Common.{◌≡◌, ℕ, ◌≤◌, ◌<◌, List, [], ◌∷◌, ◌++◌, refl, sym, ap, ◌∙◌, subst, inl, inr, arith, ◌⊎◌, lit≤, lit<}
 use Rattle.std.specs.Prelude.{length, Option, Some, ◌≢◌}
-use Rattle.wb_aql_syntax.specs.Tree.{Tree, Trees, Arguments, no_trees, no_arguments, with_tree, with_lambda, with_type, with_expression}
+use Rattle.wb_aql_syntax.specs.Tree.{Tree, Arguments, with_type, with_expression}
 use Rattle.wb_aql_syntax.specs.Tree as t
-use Rattle.wb_aql_syntax.specs.Grammar.{Phrase, Expr, Implies, Or, Xor, And, Neg, Cmp, Sum, Term, Unary, Post, Atom, ImpliesMore, OrMore, XorMore, AndMore, CmpMore, SumMore, TermMore, PostMore, Named, Featured, CallArguments, Argument, ArgumentMore, Elements, Element, ElementMore, Bound, openings, lambdas, Rest, done, sign, name, phrase, opening, last, inside, Line, Takes, Reads, reads_done, reads_sign, reads_name, reads_phrase, reads_opening}
+use Rattle.wb_aql_syntax.specs.Grammar.{Phrase, Expr, Implies, Or, Xor, And, Neg, Cmp, Sum, Term, Unary, Post, Atom, ImpliesMore, OrMore, XorMore, AndMore, CmpMore, SumMore, TermMore, PostMore, Named, Argument, ArgumentMore, Rest, done, sign, name, phrase, last, Line, Reads, reads_sign, reads_name, reads_phrase}
 use Rattle.wb_aql_syntax.specs.Grammar as g
-use Rattle.wb_aql_syntax.specs.Runs.{head, Outcome, Good, Wrong, Deep, next, pick, Spent, expr_next, neg_next, unary_next, atom_next, implies_next, or_next, xor_next, and_next, cmp_next, sum_next, term_next, post_next, featured_next, named_next, arguments_next, argument_more_next, elements_next, element_more_next, argument_next, class_or_literal, class_line, lambda_line, expression_line}
+use Rattle.wb_aql_syntax.specs.Runs.{head, Outcome, Good, Wrong, Deep, next, pick, argument_next, class_or_literal, class_line, lambda_line, expression_line}
 use Rattle.wb_aql_syntax.specs.declared.token.Token.{Token}
 use Rattle.wb_aql_syntax.specs.declared.token.Token.TheVariants.{Sign, Name, Integer, Quoted}
 use Rattle.wb_aql_syntax.specs.declared.token.Sign.{Sign as SignName}
@@ -16,7 +16,7 @@ use Rattle.wb_aql_syntax.proofs.Local.{Fit, Front, front_of, some_same, none_som
 use Rattle.wb_aql_syntax.proofs.Languages.{head_append}
 use Rattle.wb_aql_syntax.proofs.Fits.{Blocks, blocked}
 use Rattle.wb_aql_syntax.specs.Runs as run
-use Rattle.wb_aql_syntax.specs.Runs.{Runs, IsStop}
+use Rattle.wb_aql_syntax.specs.Runs.{Runs}
 
 abbrev pub rest_of : Outcome → List Token
 rest_of (Good y rest) = rest

@@ -3,7 +3,7 @@ use Rattle.std.proofs.Common.{◌≡◌, ℕ, suc, zero, ◌≤◌, List, [], �
 use Rattle.std.proofs.Math.Nat.{le-max_left, le-max_right}
 use Rattle.wb_aql_syntax.specs.Tree.{Tree, Trees, Arguments, no_trees, trees, no_arguments, lambda, type_named, expression, with_tree, with_lambda, with_type, with_expression}
 use Rattle.wb_aql_syntax.specs.Tree as t
-use Rattle.wb_aql_syntax.specs.Grammar.{Phrase, Expr, Implies, Or, Xor, And, Neg, Cmp, Sum, Term, Unary, Post, Atom, ImpliesMore, OrMore, XorMore, AndMore, CmpMore, SumMore, TermMore, PostMore, Named, Featured, CallArguments, Argument, ArgumentMore, Elements, Element, ElementMore, Bound, openings, lambdas, Rest, done, sign, name, phrase, opening, last, inside, Line, Takes, takes_opening, takes_lambda, Reads, reads_done, reads_sign, reads_name, reads_phrase, reads_opening, Spells}
+use Rattle.wb_aql_syntax.specs.Grammar.{Phrase, Expr, Implies, Or, Xor, And, Neg, Cmp, Sum, Term, Unary, Post, Atom, ImpliesMore, OrMore, XorMore, AndMore, CmpMore, SumMore, TermMore, PostMore, CallArguments, Argument, ArgumentMore, Elements, Element, ElementMore, Rest, done, sign, phrase, last, inside, takes_opening, takes_lambda, Reads, reads_done, reads_sign, reads_name, reads_phrase, reads_opening, Spells}
 use Rattle.wb_aql_syntax.specs.Grammar as g
 use Rattle.wb_aql_syntax.specs.Canonical.{stands, left_of, right_of, tightness, Piece, blank, token, mark, sign_of, link_of, apart, enclosed, standing, pieces, element_pieces, argument_pieces, tokens_in, canon, enclosed_openings, standing_openings, openings_of, element_openings, argument_openings, lambdas_of, element_lambdas, argument_lambdas}
 use Rattle.wb_aql_syntax.specs.declared.token.Token.{Token}

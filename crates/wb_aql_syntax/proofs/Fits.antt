@@ -1,9 +1,9 @@
 -- Each line of the grammar fits its phrase: what follows a part cannot be taken by that part.
 use Rattle.std.proofs.Common.{◌≡◌, ℕ, suc, ◌≤◌, ◌<◌, List, [], ◌∷◌, ◌++◌, refl, sym, ◌∙◌, subst, append_assoc, inl, inr, arith, true, false, lit≤, lit<}
 use Rattle.std.specs.Prelude.{Option, Some}
-use Rattle.wb_aql_syntax.specs.Tree.{Tree, Trees, Arguments, no_trees, no_arguments, with_tree, with_lambda, with_type, with_expression}
+use Rattle.wb_aql_syntax.specs.Tree.{Tree, no_trees, no_arguments, with_tree, with_lambda, with_type, with_expression}
 use Rattle.wb_aql_syntax.specs.Tree as t
-use Rattle.wb_aql_syntax.specs.Grammar.{Phrase, Expr, Implies, Or, Xor, And, Neg, Cmp, Sum, Term, Unary, Post, Atom, ImpliesMore, OrMore, XorMore, AndMore, CmpMore, SumMore, TermMore, PostMore, Named, Featured, CallArguments, Argument, ArgumentMore, Elements, Element, ElementMore, Bound, openings, lambdas, Rest, done, sign, name, phrase, opening, last, inside, Line, Takes, Reads, reads_done, reads_sign, reads_name, reads_phrase, reads_opening}
+use Rattle.wb_aql_syntax.specs.Grammar.{Phrase, Expr, Implies, Or, Xor, And, Neg, Cmp, Sum, Term, Unary, Post, Atom, ImpliesMore, OrMore, XorMore, AndMore, CmpMore, SumMore, TermMore, PostMore, Named, Featured, CallArguments, Argument, ArgumentMore, Elements, Element, ElementMore, openings, Rest, done, sign, name, phrase, opening, last, inside, Line, Reads, reads_done, reads_sign, reads_name, reads_phrase, reads_opening}
 use Rattle.wb_aql_syntax.specs.Grammar as g
 use Rattle.wb_aql_syntax.specs.Runs.{head}
 use Rattle.wb_aql_syntax.specs.Places.{opens}

@@ -1,6 +1,6 @@
 -- One more element, or one more argument, in memory and in the tree.
 use Rattle.std.proofs.Common.{◌≡◌, List, [], ◌∷◌, ◌++◌, refl, ap}
-use Rattle.wb_aql_syntax.specs.Tree.{Tree, Trees, with_tree}
+use Rattle.wb_aql_syntax.specs.Tree.{with_tree}
 use Rattle.wb_aql_syntax.specs.Tree as t
 use Rattle.wb_aql_syntax.specs.View.{tree_of, trees_in, arguments_in}
 use Rattle.wb_aql_syntax.specs.Reading.{with_argument}

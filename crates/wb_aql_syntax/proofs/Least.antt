@@ -1,8 +1,8 @@
 -- No spelling of a tree has fewer tokens, openings or lambdas than its canonical one.
 use Rattle.std.proofs.Common.{◌≡◌, ℕ, zero, suc, ◌≤◌, ◌+◌, List, false, length, refl, subst, arith, lit≤}
-use Rattle.wb_aql_syntax.specs.Tree.{Tree, Trees, Arguments, no_trees, no_arguments, with_tree, with_lambda, with_type, with_expression}
+use Rattle.wb_aql_syntax.specs.Tree.{Tree, Trees, Arguments, no_trees, no_arguments}
 use Rattle.wb_aql_syntax.specs.Tree as t
-use Rattle.wb_aql_syntax.specs.Grammar.{Phrase, Expr, Implies, Or, Xor, And, Neg, Cmp, Sum, Term, Unary, Post, Atom, ImpliesMore, OrMore, XorMore, AndMore, CmpMore, SumMore, TermMore, PostMore, Named, Featured, CallArguments, Argument, ArgumentMore, Elements, Element, ElementMore, Bound, openings, lambdas, Rest, done, sign, name, phrase, opening, last, inside, Line, Takes, takes_opening, takes_lambda, Reads, reads_done, reads_sign, reads_name, reads_phrase, reads_opening, Spells}
+use Rattle.wb_aql_syntax.specs.Grammar.{Phrase, Expr, Implies, Or, Xor, And, Neg, Cmp, Sum, Term, Unary, Post, Atom, ImpliesMore, OrMore, XorMore, AndMore, CmpMore, SumMore, TermMore, PostMore, Named, Featured, CallArguments, Argument, ArgumentMore, Elements, Element, ElementMore, openings, lambdas, Rest, done, sign, name, phrase, opening, last, inside, Line, Takes, takes_opening, takes_lambda, Reads, reads_done, reads_sign, reads_name, reads_phrase, reads_opening, Spells}
 use Rattle.wb_aql_syntax.specs.Grammar as g
 use Rattle.wb_aql_syntax.specs.Canonical.{rank, left_of, right_of, whole_of, pieces, element_pieces, argument_pieces, canon, openings_of, element_openings, argument_openings, lambdas_of, element_lambdas, argument_lambdas}
 use Rattle.wb_aql_syntax.specs.declared.token.Token.{Token}

@@ -1,9 +1,9 @@
 -- What each line of the grammar begins with, and that the next token picks it.
 use Rattle.std.proofs.Common.{◌≡◌, ℕ, ◌≤◌, List, ◌∷◌, refl, sym, ap, subst, inl, inr, arith, Bool, true, false, ◌⊎◌, lit≤}
 use Rattle.std.specs.Prelude.{Option, Some, None}
-use Rattle.wb_aql_syntax.specs.Tree.{Tree, Trees, Arguments, no_trees, no_arguments, with_tree, with_lambda, with_type, with_expression}
+use Rattle.wb_aql_syntax.specs.Tree.{Tree, Trees, Arguments, no_trees, no_arguments}
 use Rattle.wb_aql_syntax.specs.Tree as t
-use Rattle.wb_aql_syntax.specs.Grammar.{Phrase, Expr, Implies, Or, Xor, And, Neg, Cmp, Sum, Term, Unary, Post, Atom, ImpliesMore, OrMore, XorMore, AndMore, CmpMore, SumMore, TermMore, PostMore, Named, Featured, CallArguments, Argument, ArgumentMore, Elements, Element, ElementMore, Bound, openings, lambdas, Rest, done, sign, name, phrase, opening, last, inside, Line, Takes, Reads, reads_done, reads_sign, reads_name, reads_phrase, reads_opening}
+use Rattle.wb_aql_syntax.specs.Grammar.{Phrase, Expr, Implies, Or, Xor, And, Neg, Cmp, Sum, Term, Unary, Post, Atom, ImpliesMore, OrMore, XorMore, AndMore, CmpMore, SumMore, TermMore, PostMore, Named, Featured, CallArguments, Argument, ArgumentMore, Elements, Element, ElementMore, Rest, done, sign, name, phrase, opening, last, Line, Reads, reads_done, reads_sign, reads_name, reads_phrase, reads_opening}
 use Rattle.wb_aql_syntax.specs.Grammar as g
 use Rattle.wb_aql_syntax.specs.Runs.{head, next, pick, expr_next, neg_next, unary_next, atom_next, implies_next, or_next, xor_next, and_next, cmp_next, sum_next, term_next, post_next, featured_next, named_next, arguments_next, argument_more_next, elements_next, element_more_next, argument_next, class_or_literal, class_line, expression_line}
 use Rattle.wb_aql_syntax.specs.declared.token.Token.{Token}

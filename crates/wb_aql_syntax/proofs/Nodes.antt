@@ -1,6 +1,6 @@
 -- The tree of each node.
 use Rattle.std.proofs.Common.{◌≡◌, ℕ, List, [], ◌∷◌, map, refl, sym, ap, ◌∙◌}
-use Rattle.wb_aql_syntax.specs.Tree.{Tree, Trees, Arguments}
+use Rattle.wb_aql_syntax.specs.Tree.{Tree}
 use Rattle.wb_aql_syntax.specs.Tree as t
 use Rattle.wb_aql_syntax.specs.View.{tree_of, layer, trees_of, arguments_of, trees_in, arguments_in}
 use Rattle.wb_aql_syntax.specs.declared.expr.Node.{Node}

@@ -4,7 +4,7 @@ use Rattle.std.specs.Prelude.{Option, Some, None, ◌⊎◌, ◌↔◌, Bool, tr
 use Rattle.wb_aql_syntax.specs.Tree.{Tree, Trees, Arguments, no_trees, no_arguments}
 use Rattle.wb_aql_syntax.specs.Tree as t
 use Rattle.wb_aql_syntax.specs.Grammar.{Expr, Implies, Neg, Cmp, CmpMore, Sum, Unary, Post, Atom, PostMore, Named, Featured, CallArguments, Argument, ArgumentMore, Elements, Element, ElementMore, Rest, done, sign, phrase, last}
-use Rattle.wb_aql_syntax.specs.Runs.{head, Outcome, Good, Wrong, pick, expr_next, neg_next, unary_next, named_next, featured_next, atom_next, arguments_next, argument_more_next, argument_next, elements_next, element_more_next, call, Runs}
+use Rattle.wb_aql_syntax.specs.Runs.{head, Good, Wrong, pick, expr_next, neg_next, unary_next, named_next, featured_next, atom_next, arguments_next, argument_more_next, argument_next, elements_next, element_more_next, call, Runs}
 use Rattle.wb_aql_syntax.specs.Runs as run
 use Rattle.wb_aql_syntax.specs.Reading.{operand, whole, more, let_line, if_line, parentheses_line, braces, literal_rest, Names}
 use Rattle.wb_aql_syntax.specs.declared.level.Level.{Level}

@@ -3,7 +3,7 @@ use Rattle.std.proofs.Common.{◌≡◌, ℕ, ◌≤◌, List, [], ◌∷◌, �
 use Rattle.std.specs.Prelude.{Some, None}
 use Rattle.wb_aql_syntax.specs.Tree.{Tree, Arguments}
 use Rattle.wb_aql_syntax.specs.Grammar.{Phrase, Argument, Bound, Rest, done, sign, name, phrase, opening, Line, Takes, Reads, reads_done, reads_sign, reads_name, reads_phrase, reads_opening}
-use Rattle.wb_aql_syntax.specs.Runs.{head, Outcome, Good, Wrong, Deep, next, pick, Spent, expr_next, neg_next, unary_next, atom_next, implies_next, or_next, xor_next, and_next, cmp_next, sum_next, term_next, post_next, featured_next, named_next, arguments_next, argument_more_next, elements_next, element_more_next, argument_next, class_or_literal, class_line, lambda_line, expression_line}
+use Rattle.wb_aql_syntax.specs.Runs.{head, Outcome, Good, Wrong, Deep, next, pick}
 use Rattle.wb_aql_syntax.specs.declared.token.Token.{Token}
 use Rattle.wb_aql_syntax.specs.declared.token.Token.TheVariants.{Name}
 use Rattle.wb_aql_syntax.specs.declared.expr.CallKind.{CallKind}

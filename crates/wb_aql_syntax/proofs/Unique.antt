@@ -2,7 +2,7 @@
 use Rattle.std.proofs.Common.{◌≡◌, ℕ, suc, zero, ◌≤◌, ◌<◌, List, [], ◌∷◌, ◌++◌, refl, sym, ap, ◌∙◌, subst, append_assoc, inl, inr, arith, ◌⊎◌, lit≤}
 use Rattle.std.specs.Prelude.{Option, Some, length, take, drop}
 use Rattle.wb_aql_syntax.specs.Tree.{Tree, Arguments, with_type}
-use Rattle.wb_aql_syntax.specs.Grammar.{Phrase, Expr, Implies, Or, Xor, And, Neg, Cmp, Sum, Term, Unary, Post, Atom, ImpliesMore, OrMore, XorMore, AndMore, CmpMore, SumMore, TermMore, PostMore, Named, Featured, CallArguments, Argument, ArgumentMore, Elements, Element, ElementMore, Bound, openings, lambdas, Rest, done, sign, name, phrase, opening, last, inside, Line, Takes, Reads, reads_done, reads_sign, reads_name, reads_phrase, reads_opening}
+use Rattle.wb_aql_syntax.specs.Grammar.{Phrase, Expr, Argument, ArgumentMore, Bound, Rest, done, sign, name, phrase, opening, last, Line, Reads, reads_done, reads_sign, reads_name, reads_phrase, reads_opening}
 use Rattle.wb_aql_syntax.specs.Grammar as g
 use Rattle.wb_aql_syntax.specs.Runs.{head, class_line, lambda_line, expression_line}
 use Rattle.wb_aql_syntax.specs.declared.token.Token.{Token}

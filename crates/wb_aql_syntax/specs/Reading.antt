@@ -1,7 +1,7 @@
 -- What a step of the parser says of what it read, by the outcomes of the rest of a line.
 use Rattle.std.specs.Prelude.{ℕ, List, Bool, true, false, Result, MatchResult}
 use Rattle.std.specs.Borrow.{Bor}
-use Rattle.wb_aql_syntax.specs.Tree.{Tree, Trees, Arguments, with_lambda, with_type, with_expression}
+use Rattle.wb_aql_syntax.specs.Tree.{Tree, Arguments, with_lambda, with_type, with_expression}
 use Rattle.wb_aql_syntax.specs.Tree as t
 use Rattle.wb_aql_syntax.specs.View.{tree_of, trees_in, arguments_in}
 use Rattle.wb_aql_syntax.specs.Grammar.{Phrase, Expr, Implies, Or, Xor, And, Neg, Sum, Term, Unary, ImpliesMore, OrMore, XorMore, AndMore, SumMore, TermMore, CmpMore, PostMore, Featured, CallArguments, Argument as ArgumentPhrase, ArgumentMore, Elements, Bound, openings, Rest, done, sign, name, phrase, opening, last, inside}

@@ -1,9 +1,12 @@
 ghost use Rattle.std.specs.Prelude.{◌≡◌, ◌==◌, [], ◌∷◌, ◌++◌, length, take, drop, OnOk, OnErr, IfErr};
+ghost use Rattle.std.specs.Hash as fed;
+ghost use Rattle.std.specs.Hash.{items_Alike};
 ghost use Rattle.std.specs.Cmp.Lexicographic.{pointwise, slice_cmp, slice_partial_cmp, lists_per, lists_equiv, lists_po, lists_total, lists_agrees, lists_ties};
 
 use crate::duplicate::Duplicate;
 use std::alloc::{AllocError, AllocFailed, Global};
 use std::cmp::Ordering;
+use std::hash::{Hash, Hasher};
 use std::marker::Model;
 
 /// A list. Contracts see its items in order, and nothing of the memory that holds them.
@@ -107,6 +110,16 @@ impl<T: Ord> Ord for List<T> {
 
     fn cmp(&self, other: &List<T>) -> Ordering {
         self.as_slice().cmp(&other.as_slice())
+    }
+}
+
+impl<T: Hash> Hash for List<T> {
+    ghost hash_input = { λ l. fed.slice T.hash_input l };
+
+    ghost respects_eq = { (items_Alike (record { fed = T.respects_eq })).fed };
+
+    fn hash<H: Hasher>(&self, state: &mut H) {
+        self.as_slice().hash(state);
     }
 }
 

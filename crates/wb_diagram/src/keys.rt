@@ -3,20 +3,20 @@ use wb_base::{Duplicate, List};
 use wb_metamodel::ObjectId;
 
 /// An object under a mapping, which is given by its number.
-#[derive(Clone, Copy, Debug, PartialEq, Eq, PartialOrd, Ord)]
+#[derive(Clone, Copy, Debug, PartialEq, Eq, PartialOrd, Ord, Hash)]
 pub struct Pair {
     pub mapping: u32,
     pub object: ObjectId,
 }
 
 /// The key of a node or container: the pairs on the path from the diagram down to it, its own last.
-#[derive(Debug, Drop, PartialEq, Eq, PartialOrd, Ord)]
+#[derive(Debug, Drop, PartialEq, Eq, PartialOrd, Ord, Hash)]
 pub struct Key {
     pub pairs: List<Pair>,
 }
 
 /// The key of an edge: its mapping, its semantic object, and the elements at its ends.
-#[derive(Debug, Drop, PartialEq, Eq, PartialOrd, Ord)]
+#[derive(Debug, Drop, PartialEq, Eq, PartialOrd, Ord, Hash)]
 pub struct EdgeKey {
     pub mapping: u32,
     pub object: ObjectId,
@@ -25,7 +25,7 @@ pub struct EdgeKey {
 }
 
 /// The key of an element of either sort.
-#[derive(Debug, Drop, PartialEq, Eq, PartialOrd, Ord)]
+#[derive(Debug, Drop, PartialEq, Eq, PartialOrd, Ord, Hash)]
 pub enum AnyKey {
     Node(Key),
     Edge(EdgeKey),

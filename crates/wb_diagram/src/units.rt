@@ -1,7 +1,7 @@
 use crate::keys::{AnyKey, Key, Pair};
 
 /// An expression of a viewpoint at a place of the diagram: what is evaluated, and kept, by itself.
-#[derive(Debug, Drop, PartialEq, Eq, PartialOrd, Ord)]
+#[derive(Debug, Drop, PartialEq, Eq, PartialOrd, Ord, Hash)]
 pub enum Unit {
     /// The candidates of a mapping under an element, or under the diagram itself.
     Candidates { mapping: u32, parent: Option<Key> },

@@ -3,7 +3,7 @@ use Rattle.std.proofs.Common.{◌≡◌, ℕ, ◌+◌, ◌<◌, ◌≤◌, Bool,
 use Rattle.std.specs.Prelude.{unwrap_or, All}
 use Rattle.std.proofs.lemmas.List.{take_more, get_or_default}
 use Rattle.std.proofs.lemmas.List.Folds.{find-append}
-use Rattle.std.proofs.lemmas.Bool.{false≢true, true≢false, cases_Bool, cases_eq, both_ways, or_cases, or_left, or_right, and_parts, and_from, not-true, not_from_false, eqb-true, eq-eqb, ne_eqb, cond-true, cond-false}
+use Rattle.std.proofs.lemmas.Bool.{false≢true, true≢false, cases_Bool, cases_eq, both_ways, or_cases, or_left, or_right, and_parts, and_from, not-true, eqb-true, eq-eqb, ne_eqb, cond-true, cond-false}
 use Rattle.std.proofs.lemmas.Option.{none-some, same_Some, slice_get_within, slice_get-map, slice_get-get_or, slice_get_read, get_or_from_slice_get}
 use Rattle.std.specs.Cmp.Lexicographic.{bytes_decides, nat_list_eq_equiv}
 use Rattle.std.specs.List.{list_any, find, slice_get, position, AllZip}
@@ -17,7 +17,7 @@ use Rattle.wb_metamodel.proofs.Zips.{zip-length, zip-at}
 use Rattle.wb_metamodel.proofs.Warshall.{length-map}
 use Rattle.wb_metamodel.proofs.TableLemmas.{entry-cell}
 use Rattle.wb_metamodel.proofs.Distinct.{number-at}
-use Rattle.wb_metamodel.proofs.Checked.{Found, find-passes}
+use Rattle.wb_metamodel.proofs.Checked.{find-passes}
 use Rattle.wb_metamodel.proofs.Inherit.{of-member, member-at}
 use Rattle.std.proofs.lemmas.List.FromFn.{length-range_with_len}
 

@@ -1,5 +1,5 @@
 -- What the check of repeated names gives: what has a name is found by it.
-use Rattle.std.proofs.Common.{◌≡◌, ℕ, ◌+◌, ◌<◌, ◌≤◌, Bool, true, false, cond, ◌||◌, eqb, List, [], ◌∷◌, ◌++◌, length, map, take, Option, Some, None, Result, Ok, Err, zero, suc, refl, sym, ap, ◌∙◌, subst, inl, inr, ⊎_elim, ◌⊎◌, arith}
+use Rattle.std.proofs.Common.{◌≡◌, ℕ, ◌+◌, ◌<◌, ◌≤◌, Bool, true, false, cond, ◌||◌, List, [], ◌∷◌, ◌++◌, length, map, take, Option, Some, Result, Ok, Err, zero, suc, refl, sym, ap, ◌∙◌, subst, ⊎_elim, ◌⊎◌, arith}
 use Rattle.std.specs.Prelude.{⊤, codes}
 use Rattle.std.proofs.lemmas.Bool.{false≢true, or_parts}
 use Rattle.std.proofs.lemmas.Option.{none-some, same_Some, slice_get_within, slice_get-map}
@@ -14,11 +14,11 @@ use Rattle.wb_metamodel.specs.declared.resolving.ResolvedClass.{ResolvedClass}
 use Rattle.wb_metamodel.specs.declared.document.Document.{Document}
 use Rattle.wb_metamodel.specs.declared.document.EnumPart.{EnumPart}
 use Rattle.wb_metamodel.specs.declared.document.ClassPart.{ClassPart}
-use Rattle.wb_metamodel.specs.Metamodel.{Metamodel, same_name, numbers, class_named, enum_named, literal_named, class_at, enum_at}
+use Rattle.wb_metamodel.specs.Metamodel.{same_name, numbers, class_named, enum_named, literal_named, class_at, enum_at}
 use Rattle.wb_metamodel.specs.Resolving.{walked, class_resolved, enumeration_of, content_of}
-use Rattle.wb_metamodel.specs.Checks.{◌>>=◌, each_from, none_is, fresh, repeats, unrepeated, unrepeated_features, reserved, enum_names, class_names, check_enum_names, check_class_names, unrepeated_names}
+use Rattle.wb_metamodel.specs.Checks.{◌>>=◌, each_from, none_is, fresh, repeats, unrepeated, reserved, enum_names, class_names, check_enum_names, check_class_names}
 use Rattle.wb_metamodel.proofs.Positions.{position-first}
-use Rattle.wb_metamodel.proofs.Resolutions.{ClassOf, class-of, mapped}
+use Rattle.wb_metamodel.proofs.Resolutions.{class-of, mapped}
 
 pub then_ok : {A B E : Type 0} (r : Result A E) (next : A → Result B E) (v : B) → (r >>= next) ≡ Ok v → (a : A) × (r ≡ Ok a) × (next a ≡ Ok v)
 then_ok (Ok a) next v h = (a, refl, h)

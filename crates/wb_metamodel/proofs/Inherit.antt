@@ -1,5 +1,5 @@
 -- The features of a class, from those of its supertypes.
-use Rattle.std.proofs.Common.{◌≡◌, ℕ, ◌+◌, ◌<◌, ◌≤◌, Bool, true, false, not, cond, ◌||◌, eqb, List, [], ◌∷◌, ◌++◌, Some, length, map, get_or, set, length-set, get_or-set_same, get_or-set_other, take, append-nil, zero, suc, refl, sym, ap, ◌∙◌, subst, inl, inr, ⊎_elim, ◌⊎◌, append_assoc, arith}
+use Rattle.std.proofs.Common.{◌≡◌, ℕ, ◌+◌, ◌<◌, ◌≤◌, Bool, true, false, not, cond, ◌||◌, eqb, List, [], ◌∷◌, ◌++◌, Some, length, map, get_or, set, length-set, get_or-set_same, get_or-set_other, take, append-nil, zero, suc, refl, sym, ap, ◌∙◌, subst, ⊎_elim, ◌⊎◌, append_assoc, arith}
 use Rattle.std.proofs.lemmas.Bool.{false≢true, or_cases, or_left, or_right, eqb-true, eq-eqb, ne_eqb, cases_eq, cases_lt}
 use Rattle.std.proofs.lemmas.List.Folds.{list_any-append, list_any_at}
 use Rattle.std.proofs.lemmas.List.{take_more, get_or_default}
@@ -10,7 +10,7 @@ use Rattle.std.specs.List.{list_any, find, flat_map, filter, range_with_len, cou
 use Rattle.std.specs.Option.{option_map_or}
 use Rattle.wb_metamodel.specs.declared.features.Feature.{Feature}
 use Rattle.wb_metamodel.specs.Metamodel.{Metamodel, numbers, supertypes_of, is_supertype, is_below, first_places, own_features, features_within, features_of}
-use Rattle.wb_metamodel.specs.Tables.{table_of, below_table, features_table, rank_of}
+use Rattle.wb_metamodel.specs.Tables.{below_table, features_table, rank_of}
 use Rattle.wb_metamodel.specs.Inherited.{IsHierarchy, FilledTo, all_features}
 use Rattle.wb_metamodel.proofs.Ranks.{tally, tally-is, rank-falls, rank-within, flat_map-same, features_of-step}
 use Rattle.wb_metamodel.proofs.Warshall.{map-map, map-same}

@@ -1,12 +1,11 @@
 -- What a look-up finds is one of the metamodel's.
-use Rattle.std.proofs.Common.{◌≡◌, ℕ, ◌<◌, List, length, Option, Some, None, get_or, refl, sym, ap, ◌∙◌}
+use Rattle.std.proofs.Common.{◌≡◌, ℕ, ◌<◌, List, length, Some, get_or, ◌∙◌}
 use Rattle.std.specs.Prelude.{All}
-use Rattle.std.specs.Option.{option_and_then}
-use Rattle.std.specs.List.{slice_get, position}
+use Rattle.std.specs.List.{position}
 use Rattle.std.proofs.lemmas.Option.{none-some, slice_get_within}
 use Rattle.wb_metamodel.specs.declared.classes.Class.{Class}
 use Rattle.wb_metamodel.specs.declared.classes.Enumeration.{Enumeration}
-use Rattle.wb_metamodel.specs.Metamodel.{Metamodel, same_name, class_named, enum_named, literal_named, feature_named, features_of, literals_of, enum_at}
+use Rattle.wb_metamodel.specs.Metamodel.{Metamodel, same_name, class_named, enum_named, feature_named, features_of}
 use Rattle.wb_metamodel.specs.Checks.{is_name_of}
 use Rattle.wb_metamodel.proofs.Positions.{position-Some}
 use Rattle.wb_metamodel.proofs.Inherit.{find-member, of-member, member-at}

@@ -1,11 +1,11 @@
 -- The test `conforms` holds exactly where a path of supertypes leads.
 use Rattle.std.proofs.Common.{◌≡◌, ℕ, ◌+◌, ◌<◌, ◌≤◌, Bool, true, false, cond, ◌||◌, eqb, List, [], ◌∷◌, length, refl, sym, ap, ◌∙◌, subst, inl, inr, ⊎_elim, ◌⊎◌, arith, zero, suc}
-use Rattle.std.proofs.lemmas.Bool.{cases_Bool, false≢true, cases_eq, cases_lt, or_cases, or_left, or_right, eqb-true, eq-eqb}
+use Rattle.std.proofs.lemmas.Bool.{false≢true, cases_eq, cases_lt, or_cases, or_left, or_right, eqb-true, eq-eqb}
 use Rattle.std.proofs.lemmas.Option.{slice_get_past}
 use Rattle.std.specs.Option.{option_map_or}
 use Rattle.std.specs.List.{list_any, range_with_len, slice_get}
 use Rattle.wb_metamodel.specs.declared.classes.Class.{Class}
-use Rattle.wb_metamodel.specs.Metamodel.{Metamodel, numbers, supertypes_of, is_supertype, Conforms, leads_through, is_below, conforms}
+use Rattle.wb_metamodel.specs.Metamodel.{Metamodel, numbers, is_supertype, Conforms, leads_through, is_below, conforms}
 use Rattle.wb_metamodel.specs.Metamodel.Conforms.{itself, upwards}
 
 pub among_range : (x a n : ℕ) → a ≤ x → x < a + n → list_any (eqb x) (range_with_len a n) ≡ true

@@ -3,22 +3,21 @@ use Rattle.std.proofs.Common.{◌≡◌, ℕ, ◌+◌, ◌<◌, ◌≤◌, Bool,
 use Rattle.std.proofs.lemmas.Bool.{false≢true, or_cases, eqb-true}
 use Rattle.std.proofs.lemmas.Option.{none-some, same_Some, slice_get_within, slice_get-map}
 use Rattle.std.specs.List.{list_any, flat_map, enumerate_from, slice_get, position}
-use Rattle.std.specs.Option.{option_map, option_map_or, option_and_then}
+use Rattle.std.specs.Option.{option_map, option_map_or}
 use Rattle.wb_json.specs.Place.{Place, within, at_member, at_index}
 use Rattle.wb_json.specs.Form.{◌>>=◌, in_turn, or_wrong}
 use Rattle.wb_metamodel.specs.declared.classes.Class.{Class}
 use Rattle.wb_metamodel.specs.declared.features.Feature.{Feature}
 use Rattle.wb_metamodel.specs.declared.features.Kind.{Kind}
-use Rattle.wb_metamodel.specs.declared.features.Kind.TheVariants.{Int, Bool as BoolKind, Text, Enum, Reference}
+use Rattle.wb_metamodel.specs.declared.features.Kind.TheVariants.{Int, Bool as BoolKind, Text, Enum}
 use Rattle.wb_metamodel.specs.declared.resolving.ResolvedClass.{ResolvedClass}
 use Rattle.wb_metamodel.specs.declared.document.Document.{Document}
 use Rattle.wb_metamodel.specs.declared.document.EnumPart.{EnumPart}
 use Rattle.wb_metamodel.specs.declared.document.ClassPart.{ClassPart}
 use Rattle.wb_metamodel.specs.declared.document.FeaturePart.{FeaturePart}
-use Rattle.wb_metamodel.specs.declared.document.ReferencePart.{ReferencePart}
 use Rattle.wb_metamodel.specs.declared.document.Target.{Target}
 use Rattle.wb_metamodel.specs.declared.document.Target.TheVariants.{Values, Objects}
-use Rattle.wb_metamodel.specs.Metamodel.{Metamodel, same_name, is_supertype, supertypes_of, class_at, feature_at}
+use Rattle.wb_metamodel.specs.Metamodel.{Metamodel, same_name, is_supertype, feature_at}
 use Rattle.wb_metamodel.specs.Resolving.{class_number, enum_number, kind_named, opposite_of, feature_resolved, in_place, walked, class_resolved, enumeration_of, content_of, resolved}
 use Rattle.wb_metamodel.specs.WellFormed.{KindIsKnown, IsReference}
 use Rattle.wb_metamodel.proofs.Positions.{position-Some}

@@ -1,14 +1,13 @@
 -- What a document gives that passed every check is well formed.
-use Rattle.std.proofs.Common.{◌≡◌, ℕ, ◌<◌, ◌^◌, true, List, length, Option, Some, Result, Ok, Err, sym, ap, ◌∙◌, subst, arith}
+use Rattle.std.proofs.Common.{◌≡◌, ℕ, ◌<◌, ◌^◌, true, List, length, Result, Ok, Err, ap, ◌∙◌, subst, arith}
 use Rattle.std.specs.Prelude.{codes, ⊤}
 use Rattle.wb_json.specs.Place.{Place, at_member}
 use Rattle.wb_metamodel.specs.declared.document.Document.{Document}
-use Rattle.wb_metamodel.specs.declared.features.Feature.{Feature}
 use Rattle.wb_metamodel.specs.declared.resolving.ResolvedClass.{ResolvedClass}
 use Rattle.wb_metamodel.specs.Metamodel.{Metamodel, is_supertype}
 use Rattle.std.specs.List.{enumerate_from}
 use Rattle.wb_metamodel.specs.Resolving.{walked, class_resolved, content_of, resolved}
-use Rattle.wb_metamodel.specs.WellFormed.{WellFormed, IsWellFormed}
+use Rattle.wb_metamodel.specs.WellFormed.{IsWellFormed}
 use Rattle.wb_metamodel.specs.Checks.{each_from, check_enum_names, check_class_names, ◌>>=◌, unrepeated_names, no_cycle, no_clash, opposites_match, few, coded, resolve, later, check, Answers}
 use Rattle.wb_metamodel.specs.declared.refusal.MetamodelCode.{MetamodelCode}
 use Rattle.wb_metamodel.specs.declared.refusal.MetamodelCode.TheVariants.{SupertypeCycle, DuplicateName, UnknownName, OppositeMismatch, TooMany}

@@ -1,6 +1,6 @@
 -- What a text is as a metamodel: the metamodel, or the first code with the place of the first wrong spot.
 -- Each check goes over the whole document, one after the other. All enumerations stand before all classes.
-use Rattle.std.specs.Prelude.{◌≡◌, ⊤, ℕ, ◌+◌, ◌&&◌, ◌||◌, nat_eq, nat_le, not, Bool, true, false, if◌then◌else◌, List, [], ◌∷◌, ◌++◌, length, map, find, filter, count_by, take, position, Option, Some, None, is_some, option_map, option_and_then, slice_get, Result, Ok, Err, codes}
+use Rattle.std.specs.Prelude.{◌≡◌, ⊤, ℕ, ◌+◌, ◌&&◌, ◌||◌, nat_eq, nat_le, not, Bool, true, false, if◌then◌else◌, List, [], ◌∷◌, ◌++◌, length, map, find, count_by, take, Option, Some, None, option_map, slice_get, Result, Ok, Err, codes}
 use Rattle.std.specs.Option.{option_map_or}
 use Rattle.std.specs.List.{list_any}
 use Rattle.wb_json.specs.Place.{Place, at_member, at_index}
@@ -8,7 +8,7 @@ use Rattle.wb_json.specs.Form.{or_wrong}
 use Rattle.wb_json.specs.Json.{json_of}
 use Rattle.wb_metamodel.specs.declared.features.Feature.{Feature}
 use Rattle.wb_metamodel.specs.declared.features.Kind.{Kind}
-use Rattle.wb_metamodel.specs.declared.features.Kind.TheVariants.{Int, Bool as BoolKind, Text, Enum, Reference}
+use Rattle.wb_metamodel.specs.declared.features.Kind.TheVariants.{Int, Text, Reference}
 use Rattle.wb_metamodel.specs.declared.refusal.MetamodelCode.{MetamodelCode}
 use Rattle.wb_metamodel.specs.declared.refusal.MetamodelCode.TheVariants.{BadJson, BadShape, DuplicateName, UnknownName, SupertypeCycle, OppositeMismatch, TooMany}
 use Rattle.wb_metamodel.specs.declared.refusal.MetamodelRefusal.{MetamodelRefusal}
@@ -17,9 +17,6 @@ use Rattle.wb_metamodel.specs.declared.document.Document.{Document}
 use Rattle.wb_metamodel.specs.declared.document.EnumPart.{EnumPart}
 use Rattle.wb_metamodel.specs.declared.document.ClassPart.{ClassPart}
 use Rattle.wb_metamodel.specs.declared.document.FeaturePart.{FeaturePart}
-use Rattle.wb_metamodel.specs.declared.document.ReferencePart.{ReferencePart}
-use Rattle.wb_metamodel.specs.declared.document.Target.{Target}
-use Rattle.wb_metamodel.specs.declared.document.Target.TheVariants.{Values, Objects}
 use Rattle.wb_metamodel.specs.declared.names.Names.{Names}
 use Rattle.wb_metamodel.specs.Names.{fresh_in}
 use Rattle.wb_metamodel.specs.Document.{document_of}

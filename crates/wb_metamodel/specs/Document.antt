@@ -1,6 +1,6 @@
 -- The form of a metamodel's text: a package with enumerations and classes.
 -- Absent booleans are false, and absent lists are empty.
-use Rattle.std.specs.Prelude.{ℕ, List, [], ◌∷◌, Bool, false, if◌then◌else◌, Option, Result, Ok, Err, unwrap_or, codes}
+use Rattle.std.specs.Prelude.{ℕ, [], ◌∷◌, false, if◌then◌else◌, Result, Ok, unwrap_or, codes}
 use Rattle.serde_json.specs.Data.{Data}
 use Rattle.wb_json.specs.Place.{Place}
 use Rattle.wb_json.specs.Form.{◌>>=◌, listed, needed, optional, list_or_empty, has, list_of, name_of, bool_of}
@@ -8,8 +8,6 @@ use Rattle.wb_metamodel.specs.declared.document.Document.{Document}
 use Rattle.wb_metamodel.specs.declared.document.EnumPart.{EnumPart}
 use Rattle.wb_metamodel.specs.declared.document.ClassPart.{ClassPart}
 use Rattle.wb_metamodel.specs.declared.document.FeaturePart.{FeaturePart}
-use Rattle.wb_metamodel.specs.declared.document.ReferencePart.{ReferencePart}
-use Rattle.wb_metamodel.specs.declared.document.Target.{Target}
 use Rattle.wb_metamodel.specs.declared.document.Target.TheVariants.{Values, Objects}
 
 abbrev pub attribute_of : Data → Result FeaturePart Place

@@ -1,5 +1,5 @@
 -- Names with their numbers.
-use Rattle.std.specs.Prelude.{◌≡◌, ⊤, ◌||◌, if◌then◌else◌, ℕ, Bool, List, [], Option, is_some, Result, Ok, Err}
+use Rattle.std.specs.Prelude.{◌≡◌, ⊤, ◌||◌, if◌then◌else◌, ℕ, List, [], Option, is_some, Result, Ok, Err}
 use Rattle.std.specs.Ordering.{nat_cmp}
 use Rattle.std.specs.Cmp.Lexicographic.{slice_cmp}
 use Rattle.std.specs.BTreeMap.{get_by}

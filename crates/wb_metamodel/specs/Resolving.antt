@@ -1,9 +1,8 @@
 -- What the names of a document name: its metamodel, or the first name that names nothing.
-use Rattle.std.specs.Prelude.{ℕ, ◌+◌, ◌++◌, Bool, false, if◌then◌else◌, List, [], ◌∷◌, length, map, position, Option, Some, None, option_map, option_and_then, slice_get, Result, Ok, Err, codes}
+use Rattle.std.specs.Prelude.{ℕ, ◌+◌, ◌++◌, Bool, false, if◌then◌else◌, List, [], ◌∷◌, length, map, position, Option, Some, None, option_map, option_and_then, slice_get, Result, Ok, codes}
 use Rattle.std.specs.List.{flat_map, enumerate_from}
 use Rattle.wb_json.specs.Place.{Place, at_member, at_index}
 use Rattle.wb_json.specs.Form.{◌>>=◌, in_turn, or_wrong}
-use Rattle.wb_metamodel.specs.declared.classes.Class.{Class}
 use Rattle.wb_metamodel.specs.declared.classes.Enumeration.{Enumeration}
 use Rattle.wb_metamodel.specs.declared.features.Feature.{Feature}
 use Rattle.wb_metamodel.specs.declared.features.Kind.{Kind}
@@ -13,7 +12,6 @@ use Rattle.wb_metamodel.specs.declared.document.Document.{Document}
 use Rattle.wb_metamodel.specs.declared.document.EnumPart.{EnumPart}
 use Rattle.wb_metamodel.specs.declared.document.ClassPart.{ClassPart}
 use Rattle.wb_metamodel.specs.declared.document.FeaturePart.{FeaturePart}
-use Rattle.wb_metamodel.specs.declared.document.ReferencePart.{ReferencePart}
 use Rattle.wb_metamodel.specs.declared.document.Target.{Target}
 use Rattle.wb_metamodel.specs.declared.document.Target.TheVariants.{Values, Objects}
 use Rattle.wb_metamodel.specs.Metamodel.{Metamodel, same_name}

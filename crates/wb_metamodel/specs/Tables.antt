@@ -1,7 +1,7 @@
 -- What the tables of a metamodel hold, by which it is looked up.
-use Rattle.std.specs.Prelude.{◌≡◌, ℕ, ◌<◌, Bool, true, false, ◌||◌, not, nat_eq, find, unwrap_or, slice_index, if◌then◌else◌, count_by, List, [], ◌∷◌, length, map, slice_index_or, Option, Some, None, option_and_then, slice_get, position}
+use Rattle.std.specs.Prelude.{◌≡◌, ℕ, ◌<◌, Bool, false, ◌||◌, not, nat_eq, find, unwrap_or, slice_index, if◌then◌else◌, count_by, List, [], ◌∷◌, length, map, slice_index_or, Option, Some, None, option_and_then, slice_get, position}
 use Rattle.std.specs.List.{list_any, AllZip}
-use Rattle.wb_metamodel.specs.Metamodel.{Metamodel, same_name, names_feature, numbers, is_below, features_of, class_named, enum_named, feature_named, literal_named}
+use Rattle.wb_metamodel.specs.Metamodel.{Metamodel, same_name, names_feature, numbers, is_below, features_of, class_named, enum_named, feature_named}
 use Rattle.wb_metamodel.specs.declared.classes.Enumeration.{Enumeration}
 use Rattle.wb_metamodel.specs.declared.features.Feature.{Feature}
 use Rattle.wb_metamodel.specs.declared.lookup.Tables.{Tables}

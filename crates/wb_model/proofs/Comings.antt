@@ -1,23 +1,23 @@
 -- The steps of the code are the edits: links that leave at both ends, and a link that comes before what gives way leaves.
 use Rattle.std.proofs.Common.{◌≡◌, ℕ, ◌<◌, ◌≤◌, Bool, true, false, not, ◌&&◌, ◌||◌, List, [], ◌∷◌, ◌++◌, length, Option, Some, None, refl, sym, ap, subst, ◌∙◌, cond, arith, ◌⊎◌, inl, inr, ⊎_elim, append-nil}
-use Rattle.std.proofs.lemmas.Bool.{and_parts, and_from, false≢true, or_left, or_right, or_cases}
-use Rattle.std.proofs.lemmas.Option.{none-some, slice_get_within}
+use Rattle.std.proofs.lemmas.Bool.{false≢true}
+use Rattle.std.proofs.lemmas.Option.{none-some}
 use Rattle.std.specs.Prelude.{filter, IsSome}
 use Rattle.std.specs.Option.{option_map_or}
 use Rattle.std.specs.List.{list_any, flat_map}
-use Rattle.wb_metamodel.specs.Metamodel.{Metamodel, feature_at}
+use Rattle.wb_metamodel.specs.Metamodel.{Metamodel}
 use Rattle.wb_metamodel.specs.declared.features.Feature.{Feature}
 use Rattle.wb_metamodel.specs.declared.features.Kind.TheVariants.{Reference}
 use Rattle.wb_metamodel.specs.WellFormed.{WellFormed}
 use Rattle.wb_model.specs.declared.scalars.Scalar.{Scalar}
 use Rattle.wb_model.specs.declared.scalars.Scalar.TheVariants.{Int, Bool as Boolean, Text, Literal, Object}
 use Rattle.wb_model.specs.Contents.{Contents, slot, kind}
-use Rattle.wb_model.specs.Valid.{opposite, is_many, room, IsValid, Valid, is_of_feature, is_of_kind}
+use Rattle.wb_model.specs.Valid.{opposite, is_many, IsValid, is_of_feature, is_of_kind}
 use Rattle.wb_model.specs.Edits.{Link, link, relink, other_end, both_ends, change, is_at, same_link, gives_way, unlink, emptied, stands, link_up}
-use Rattle.wb_model.specs.LinkSteps.{with_link, with_only, without_link, without_slot, each_left, with_ends, is_given, first_object, gives_place}
+use Rattle.wb_model.specs.LinkSteps.{with_link, with_only, without_link, each_left, with_ends, is_given, first_object, gives_place}
 use Rattle.wb_model.proofs.Changed.{both-same}
 use Rattle.wb_model.proofs.Ends.{Opposed, Opposites, opposites, other_end-is, other_end-In, other_end-cases, In-other_end, In-both_ends, ends-this, ends-that, ends-cases, opposed-unique, opposed-back}
-use Rattle.wb_model.proofs.EditSteps.{relink-relink, relink-agree, relink-none, unlink-alone, unlink-both, emptied-both, same_link-is, same_link-itself, linked-alone, emptied-alone, way-both, clears, come-alone, come-both, cleared}
+use Rattle.wb_model.proofs.EditSteps.{relink-relink, relink-agree, relink-none, unlink-alone, unlink-both, emptied-both, same_link-is, same_link-itself, linked-alone, emptied-alone, way-both, clears, come-alone, come-both}
 use Rattle.wb_model.proofs.LinkLemmas.{any_found, to_false}
 use Rattle.wb_model.proofs.Members.{In, any_In}
 use Rattle.wb_model.proofs.Members.In.{here, there}

@@ -5,20 +5,19 @@ use Rattle.std.proofs.lemmas.Bool.Decides.{nat_tests}
 use Rattle.std.proofs.lemmas.Option.{slice_get_within}
 use Rattle.std.specs.Prelude.{filter, IsSome}
 use Rattle.std.specs.Option.{option_map_or}
-use Rattle.std.specs.List.{list_any, list_all, flat_map}
+use Rattle.std.specs.List.{list_any, list_all}
 use Rattle.std.specs.FinMap.{get, insert}
 use Rattle.wb_metamodel.specs.Metamodel.{Metamodel}
 use Rattle.wb_metamodel.specs.WellFormed.{WellFormed}
-use Rattle.wb_model.specs.declared.scalars.Scalar.{Scalar}
 use Rattle.wb_model.specs.declared.scalars.Scalar.TheVariants.{Object}
 use Rattle.wb_model.specs.declared.scalars.Place.TheVariants.{Root, In as Inside}
 use Rattle.wb_model.specs.declared.records.Slot.{Slot}
 use Rattle.wb_model.specs.Contents.{Contents, kind, slot, is_containment, contains}
 use Rattle.wb_model.specs.Places.{rises}
 use Rattle.wb_model.specs.Records.{values_in, is_known_slot, feature_of}
-use Rattle.wb_model.specs.Valid.{IsValid, opposite, is_of_class}
+use Rattle.wb_model.specs.Valid.{IsValid, opposite}
 use Rattle.wb_model.specs.Edits.{Link, link, relink, back, both_ends, other_end, with_object, created, stands, without_root, is_at}
-use Rattle.wb_model.specs.LinkSteps.{with_link, with_root, with_ends, Grows, back_slots}
+use Rattle.wb_model.specs.LinkSteps.{with_link, with_root, Grows, back_slots}
 use Rattle.wb_model.proofs.Comings.{metamodel-relink, sound_valid, any_never}
 use Rattle.wb_model.proofs.Ends.{opposites}
 use Rattle.wb_model.proofs.LinkLemmas.{to_false}
@@ -28,7 +27,7 @@ use Rattle.wb_model.proofs.Members.In.{here, there}
 use Rattle.wb_model.proofs.Moving.{housed_valid}
 use Rattle.wb_model.proofs.Relinked.{values_at, slot-relink, slot-change, same_contents}
 use Rattle.wb_model.proofs.Relinks.{filter_none, same_test}
-use Rattle.wb_model.proofs.Sound.{Sound, Housed, Stands, contains-from, stands-In}
+use Rattle.wb_model.proofs.Sound.{contains-from, stands-In}
 
 under : (a b : ℕ) → ltb a b ≡ true → a < b
 under a b h = grind (arith, nat_tests)

@@ -3,14 +3,13 @@ use Rattle.std.proofs.Common.{◌≡◌, ℕ, Bool, true, false, Option, Some, N
 use Rattle.std.proofs.lemmas.Bool.{and_parts, false≢true}
 use Rattle.std.specs.Prelude.{IsSome, is_some}
 use Rattle.std.specs.Result.{IsErrAnd}
-use Rattle.wb_metamodel.specs.WellFormed.{WellFormed}
 use Rattle.wb_model.specs.declared.refusals.ModelRefusal.{ModelRefusal}
 use Rattle.wb_model.specs.declared.refusals.ModelRefusal.TheVariants.{UnknownObject, KindMismatch, UpperBound, ContainmentCycle, AbstractClass, TooManyObjects, IdsSpent, NoMemory}
 use Rattle.wb_model.specs.Contents.{Contents, kind}
 use Rattle.wb_model.specs.Valid.{IsValid, is_of_feature}
 use Rattle.wb_model.specs.Edits.{Link, link, unless, Edited, first_refusal, is_live, is_known_value, is_plain_feature, refusal_of_link}
 use Rattle.wb_model.specs.EditChecks.{Tells}
-use Rattle.wb_model.proofs.KeptLinks.{IsAccepted, link-accepted}
+use Rattle.wb_model.proofs.KeptLinks.{link-accepted}
 
 -- a refusal of the definition, and the model as before
 pub refused : (A : Type 0) (e : ModelRefusal) (edit : Result Contents ModelRefusal) (m : Contents) → edit ≡ Err e → Edited {A = A} (Err e) edit m m

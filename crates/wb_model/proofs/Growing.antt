@@ -8,7 +8,7 @@ use Rattle.std.specs.Prelude.{IsSome}
 use Rattle.std.specs.Ordering.{nat_cmp}
 use Rattle.std.specs.Option.{option_map, option_map_or}
 use Rattle.std.specs.List.{list_all}
-use Rattle.std.specs.FinMap.{find, insert, from_entries, from_entries_push, nat_cmp-IsAntisymmetric}
+use Rattle.std.specs.FinMap.{find, from_entries, from_entries_push, nat_cmp-IsAntisymmetric}
 use Rattle.wb_metamodel.specs.Metamodel.{Metamodel}
 use Rattle.wb_model.specs.declared.records.Record.{Record}
 use Rattle.wb_model.specs.declared.records.Slot.{Slot}

@@ -1,5 +1,5 @@
 -- A move as the code takes it: the object comes to its slot, and then leaves where it was.
-use Rattle.std.proofs.Common.{◌≡◌, ℕ, ◌<◌, Bool, true, false, ◌||◌, List, [], ◌∷◌, ◌++◌, length, Option, Some, None, refl, sym, ap, subst, ◌∙◌, cond}
+use Rattle.std.proofs.Common.{◌≡◌, ℕ, ◌<◌, Bool, true, false, ◌||◌, List, [], ◌∷◌, ◌++◌, length, Some, None, refl, sym, ap, ◌∙◌, cond}
 use Rattle.std.proofs.lemmas.Bool.{false≢true}
 use Rattle.std.proofs.lemmas.Option.{slice_get_within}
 use Rattle.std.specs.Option.{option_map_or}
@@ -15,7 +15,7 @@ use Rattle.wb_model.specs.LinkSteps.{with_ends}
 use Rattle.wb_model.proofs.Comings.{metamodel-relink, come_then, keep_given, sound_valid, any_never}
 use Rattle.wb_model.proofs.EditSteps.{relink-relink, relink-agree}
 use Rattle.wb_model.proofs.MoveSteps.{moved-held, moved-root}
-use Rattle.wb_model.proofs.Sound.{Sound, Housed, Stands, housed-from, absent, contains-parts}
+use Rattle.wb_model.proofs.Sound.{Housed, Stands, housed-from, absent, contains-parts}
 
 -- the feature of a containment slot is one of the metamodel
 pub containment_known : (metamodel : Metamodel) (f : ℕ) → is_containment metamodel f ≡ true → f < length metamodel.features

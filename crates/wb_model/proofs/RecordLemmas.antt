@@ -9,9 +9,9 @@ use Rattle.wb_model.specs.declared.scalars.Scalar.{Scalar}
 use Rattle.wb_model.specs.declared.records.Record.{Record}
 use Rattle.wb_model.specs.declared.records.Slot.{Slot}
 use Rattle.wb_model.specs.Places.{rises, numbered, IsPlaceOf}
-use Rattle.wb_model.specs.Records.{id_of, feature_of, values_in, is_known_slot, is_known, kind_entry, IsPlain}
+use Rattle.wb_model.specs.Records.{id_of, feature_of, values_in, is_known_slot, is_known, kind_entry}
 use Rattle.wb_model.specs.Slots.{SlotsChange, held_at, RecordsChange}
-use Rattle.wb_model.proofs.Found.{all_at, all_numbered, numbered_read, numbered_none}
+use Rattle.wb_model.proofs.Found.{all_numbered, numbered_read, numbered_none}
 use Rattle.wb_model.proofs.Placed.{rises-set, numbered-set, all-set}
 
 map-set : {A B : Type 0} (f : A → B) (xs : List A) (i : ℕ) (x : A) → f x ≡ f (get_or xs i x) → i < length xs → map f (set xs i x) ≡ map f xs

@@ -1,10 +1,9 @@
 -- Steps of one link: what they make of the contents that a list of objects shows, and several of them together.
-use Rattle.std.proofs.Common.{◌≡◌, ℕ, ◌<◌, Bool, true, false, not, ◌&&◌, ◌||◌, List, [], ◌∷◌, ◌++◌, length, map, Option, Some, None, refl, sym, ap, subst, ◌∙◌, cond, eqb, arith, append-nil}
+use Rattle.std.proofs.Common.{◌≡◌, ℕ, ◌<◌, Bool, true, false, not, ◌&&◌, ◌||◌, List, [], ◌∷◌, ◌++◌, length, Option, Some, None, refl, sym, ap, subst, ◌∙◌, cond, eqb, arith, append-nil}
 use Rattle.std.proofs.lemmas.Bool.{eqb-true, and_parts}
 use Rattle.std.proofs.lemmas.Bool.Decides.{nat_tests}
 use Rattle.std.specs.Prelude.{filter, IsSome}
 use Rattle.std.specs.Option.{option_map}
-use Rattle.std.specs.List.{list_any, flat_map}
 use Rattle.std.specs.FinMap.{from_entries}
 use Rattle.wb_metamodel.specs.Metamodel.{Metamodel}
 use Rattle.wb_model.specs.declared.scalars.Scalar.{Scalar}
@@ -12,7 +11,7 @@ use Rattle.wb_model.specs.declared.records.Record.{Record}
 use Rattle.wb_model.specs.Contents.{Contents, kind, slot}
 use Rattle.wb_model.specs.Scalars.{same}
 use Rattle.wb_model.specs.Places.{numbered}
-use Rattle.wb_model.specs.Records.{contents_of, kind_entry, IsPlain, id_of}
+use Rattle.wb_model.specs.Records.{contents_of, IsPlain, id_of}
 use Rattle.wb_model.specs.Slots.{held_at, RecordsChange}
 use Rattle.wb_model.specs.Edits.{Link, link, relink, is_at, same_link}
 use Rattle.wb_model.specs.LinkSteps.{with_link, with_only, without_link, without_slot}

@@ -1,19 +1,17 @@
 -- What is left where some objects are deleted from the list in which objects are kept.
-use Rattle.std.proofs.Common.{◌≡◌, ℕ, Bool, true, false, not, ◌&&◌, List, [], ◌∷◌, map, length, Option, Some, None, refl, sym, ap, subst, ◌∙◌, cond, ltb, eqb}
+use Rattle.std.proofs.Common.{◌≡◌, ℕ, Bool, true, false, not, ◌&&◌, List, [], ◌∷◌, map, length, Option, Some, None, refl, sym, ap, ◌∙◌, cond, ltb, eqb}
 use Rattle.std.proofs.lemmas.Bool.{and_parts, and_from, eqb-true}
 use Rattle.std.specs.Prelude.{filter}
 use Rattle.std.specs.Option.{option_map, option_map_or}
-use Rattle.std.specs.List.{list_all, list_any}
+use Rattle.std.specs.List.{list_all}
 use Rattle.wb_metamodel.specs.Metamodel.{Metamodel}
-use Rattle.wb_model.specs.declared.scalars.Scalar.{Scalar}
-use Rattle.wb_model.specs.declared.scalars.Scalar.TheVariants.{Int, Bool as Boolean, Text, Literal, Object}
 use Rattle.wb_model.specs.declared.records.Record.{Record}
 use Rattle.wb_model.specs.declared.records.Slot.{Slot}
 use Rattle.wb_model.specs.Contents.{Contents, kind, slot}
 use Rattle.wb_model.specs.Places.{rises, numbered}
 use Rattle.wb_model.specs.Records.{id_of, feature_of, values_in, is_known, is_known_slot, contents_of, IsPlain}
 use Rattle.wb_model.specs.Removals.{values_left, slot_left, record_left, stays}
-use Rattle.wb_model.specs.Edits.{relink, touches, is_among, is_value_among, without}
+use Rattle.wb_model.specs.Edits.{relink, touches, is_among, without}
 use Rattle.wb_model.proofs.Comings.{metamodel-relink}
 use Rattle.wb_model.proofs.Creating.{next-relink}
 use Rattle.wb_model.proofs.KeptRemoved.{kind-without, slot-without}

@@ -16,7 +16,7 @@ use Rattle.wb_model.specs.Valid.{AreContainedOnce, Within}
 use Rattle.wb_model.specs.Valid.Within.{directly, through}
 use Rattle.wb_model.specs.ValidTest.{is_within}
 use Rattle.wb_model.specs.Links.{Kept, KnowsHolders}
-use Rattle.wb_model.specs.Rings.{IsContainer, IsContainerPlace, Above, IsAbove, IsFarAbove, beyond, is_place, with_met, AreMet}
+use Rattle.wb_model.specs.Rings.{IsContainerPlace, Above, IsAbove, IsFarAbove, beyond, is_place, with_met, AreMet}
 use Rattle.wb_model.specs.Rings.Above.{itself, upwards}
 use Rattle.wb_model.specs.Places.{IsPlaceOf}
 use Rattle.wb_model.specs.Records.{id_of, kind_entry}

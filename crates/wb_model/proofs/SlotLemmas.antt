@@ -1,15 +1,12 @@
 -- Changes of one slot: by a slot that is replaced, by a new slot, and one after another.
-use Rattle.std.proofs.Common.{◌≡◌, ◌≢◌, ℕ, ◌<◌, ◌≤◌, Bool, true, false, ◌&&◌, List, [], ◌∷◌, ◌++◌, length, get_or, set, take, drop, map, Some, None, refl, sym, ap, subst, ◌∙◌, cond, ltb, eqb, arith}
-use Rattle.std.proofs.lemmas.Bool.{and_parts, eqb-true}
+use Rattle.std.proofs.Common.{◌≡◌, ◌≢◌, ℕ, ◌<◌, ◌≤◌, Bool, true, false, ◌&&◌, List, [], ◌∷◌, ◌++◌, length, get_or, set, take, drop, Some, None, refl, sym, ap, subst, ◌∙◌, cond, ltb, eqb, arith}
+use Rattle.std.proofs.lemmas.Bool.{eqb-true}
 use Rattle.std.proofs.lemmas.Bool.Decides.{nat_tests}
 use Rattle.std.specs.Option.{option_map_or}
-use Rattle.std.specs.List.{list_all}
-use Rattle.wb_metamodel.specs.Metamodel.{Metamodel}
 use Rattle.wb_model.specs.declared.scalars.Scalar.{Scalar}
-use Rattle.wb_model.specs.declared.records.Record.{Record}
 use Rattle.wb_model.specs.declared.records.Slot.{Slot}
 use Rattle.wb_model.specs.Places.{rises, numbered, IsPlaceOf}
-use Rattle.wb_model.specs.Records.{id_of, feature_of, values_in, is_known_slot, is_known, kind_entry, IsPlain}
+use Rattle.wb_model.specs.Records.{feature_of, values_in, is_known_slot}
 use Rattle.wb_model.specs.Slots.{IsGapFor, SlotsChange}
 use Rattle.wb_model.proofs.Found.{numbered_read, numbered_none, is_itself}
 use Rattle.wb_model.proofs.Placed.{rises-set, numbered-set, all-set, rises-insert, numbered-insert, none-gap, all-insert}

@@ -1,6 +1,6 @@
 -- What an object of a valid model contains, and that a tree is made of the trees of what its object contains.
-use Rattle.std.proofs.Common.{◌≡◌, ℕ, ◌+◌, ◌<◌, ◌≤◌, suc, zero, Bool, true, false, List, [], ◌∷◌, ◌++◌, map, length, Option, Some, None, refl, sym, ap, subst, ◌∙◌, cond, arith, append_assoc, reverse}
-use Rattle.std.proofs.lemmas.Bool.{and_from, both_ways, false≢true, false_from_ne_true}
+use Rattle.std.proofs.Common.{◌≡◌, ℕ, ◌+◌, ◌<◌, ◌≤◌, suc, zero, Bool, true, false, List, [], ◌∷◌, ◌++◌, map, length, Some, None, refl, sym, ap, subst, ◌∙◌, cond, arith, append_assoc, reverse}
+use Rattle.std.proofs.lemmas.Bool.{and_from, false≢true, false_from_ne_true}
 use Rattle.std.proofs.lemmas.Cmp.{nat_cmp_total}
 use Rattle.std.proofs.Math.ListN.{length-map}
 use Rattle.std.proofs.lemmas.Grind.{flat_map-append}
@@ -18,7 +18,7 @@ use Rattle.wb_model.specs.declared.scalars.Scalar.TheVariants.{Int, Bool as Bool
 use Rattle.wb_model.specs.Scalars.{same}
 use Rattle.wb_model.specs.Contents.{Contents, Filled, members, kind, slot, is_containment, contains}
 use Rattle.wb_model.specs.Cells.{objects_in, features, content, tree_within, tree}
-use Rattle.wb_model.specs.Valid.{every_slot, conforms_to, is_of_kind, is_of_feature, Within, Valid, IsValid}
+use Rattle.wb_model.specs.Valid.{every_slot, conforms_to, is_of_kind, is_of_feature, Valid, IsValid}
 use Rattle.wb_model.specs.Valid.Within.{directly}
 use Rattle.wb_model.specs.ValidTest.{is_within}
 use Rattle.wb_model.proofs.Found.{is_itself}

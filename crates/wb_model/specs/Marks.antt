@@ -1,6 +1,5 @@
 -- Objects of which some are marked, by place.
-use Rattle.std.specs.Prelude.{◌≡◌, ℕ, Bool, if◌then◌else◌, nat_eq, List, [], ◌∷◌, length, slice_get, Option, Some, None}
-use Rattle.std.specs.Option.{option_map_or, option_and_then}
+use Rattle.std.specs.Prelude.{◌≡◌, ℕ, Bool, if◌then◌else◌, List, [], ◌∷◌, Option, Some, None}
 use Rattle.wb_model.specs.declared.records.Record.{Record}
 
 abbrev pub first_marked : List Record → List Bool → Option ℕ

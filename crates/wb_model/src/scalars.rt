@@ -1,7 +1,9 @@
 ghost use Rattle.std.specs.Cmp.{partial_equiv_from_equiv};
-ghost use Rattle.wb_model.specs.Scalars.{same};
-ghost use Rattle.wb_model.specs.ScalarLaws.{same_equiv};
+ghost use Rattle.std.specs.Hash.{same_Alike};
+ghost use Rattle.wb_model.specs.Scalars.{hashed, same};
+ghost use Rattle.wb_model.specs.ScalarLaws.{same_decides, same_equiv};
 
+use std::hash::{Hash, Hasher};
 use wb_metamodel::{ClassId, EnumId, FeatureId, ObjectId, Text};
 
 /// A value that stands in a slot.
@@ -37,6 +39,25 @@ impl Eq for Scalar {
     ghost laws = { same_equiv };
 }
 
+impl Hash for Scalar {
+    ghost hash_input = { hashed };
+
+    ghost respects_eq = { (same_Alike hashed same_decides).fed };
+
+    fn hash<H: Hasher>(&self, state: &mut H) {
+        match self {
+            Scalar::Int(number) => number.hash(state),
+            Scalar::Bool(flag) => flag.hash(state),
+            Scalar::Text(text) => text.hash(state),
+            Scalar::Literal(enumeration, literal) => {
+                enumeration.hash(state);
+                literal.hash(state);
+            }
+            Scalar::Object(o) => o.hash(state),
+        }
+    }
+}
+
 /// Where an object is put: among the roots, or last in a containment slot.
 #[derive(Clone, Copy, Debug, PartialEq, Eq)]
 pub enum Place {
@@ -45,7 +66,7 @@ pub enum Place {
 }
 
 /// A part of a model that can be read by itself.
-#[derive(Clone, Copy, Debug, PartialEq, Eq)]
+#[derive(Clone, Copy, Debug, PartialEq, Eq, Hash)]
 pub enum Cell {
     /// The class of an object.
     Kind(ObjectId),

@@ -6,7 +6,7 @@ use Rattle.std.proofs.lemmas.Bool.{and_from, lt-ltb, leb-true, false≢true}
 use Rattle.std.proofs.lemmas.List.{length-map}
 use Rattle.std.proofs.lemmas.List.Folds.{list_all-map}
 use Rattle.std.proofs.lemmas.Option.{slice_get_within}
-use Rattle.wb_json.specs.Place.{Place, at_member, at_index, within}
+use Rattle.wb_json.specs.Place.{Place, at_member, within}
 use Rattle.wb_json.specs.Form.{in_turn, or_wrong}
 use Rattle.wb_json.specs.Form as form
 use Rattle.wb_metamodel.specs.Metamodel.{Metamodel, class_named, feature_at}

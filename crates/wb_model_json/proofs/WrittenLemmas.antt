@@ -1,9 +1,8 @@
 -- What is written of a model has no float in it.
-use Rattle.std.proofs.Common.{◌≡◌, ℕ, Bool, true, false, List, [], ◌∷◌, Option, Some, None, cond, refl, sym, ap, ◌∙◌}
+use Rattle.std.proofs.Common.{◌≡◌, ℕ, true, false, List, [], ◌∷◌, Option, Some, None, cond, refl, ap, ◌∙◌}
 use Rattle.std.specs.Prelude.{◌||◌}
-use Rattle.serde_json.specs.Data.{Data}
 use Rattle.serde_json.specs.Written.{has_float}
-use Rattle.wb_json.specs.ToJson.{list_json, members_json}
+use Rattle.wb_json.specs.ToJson.{list_json}
 use Rattle.wb_json.specs.NoFloats.{integer_no_float, list_no_float, members_no_float}
 use Rattle.wb_metamodel.specs.Metamodel.{Metamodel, features_of}
 use Rattle.wb_model.specs.declared.scalars.Scalar.{Scalar}

@@ -5,7 +5,7 @@ use Rattle.workbench.specs.declared.answer.Answer.{Answer}
 use Rattle.workbench.specs.declared.answer.Stop.{Stop}
 use Rattle.workbench.specs.declared.answer.Stop.TheVariants as stop
 use Rattle.workbench.specs.Answers.{Due, is_due, settled, not_built}
-use Rattle.workbench.specs.Steps.{Files, Settles, Faults, IsShelfFault, AsksFront, Asks, IsStep, IsDecision, Concludes}
+use Rattle.workbench.specs.Steps.{Files, IsShelfFault, AsksFront, IsStep, IsDecision, Concludes}
 use Rattle.workbench.proofs.TakenFiles.{not_built_is_due}
 use Rattle.workbench.proofs.FoundSteps.{none_asked, always}
 

@@ -1,6 +1,5 @@
 -- How a run ends, of what it decides on and what the sink answers.
-use Rattle.std.proofs.Common.{◌≡◌, ◌∙◌, sym, ap, subst, ℕ, Bool, true, false, List, [], ◌∷◌, Option, Some, None, IfSome, IfOk, Result, Ok, Err, ◌⊎◌, inl, inr, refl}
-use Rattle.std.specs.Io.KnownBytes.{append_known}
+use Rattle.std.proofs.Common.{◌≡◌, ◌∙◌, sym, ap, subst, ℕ, Bool, true, false, List, [], ◌∷◌, Option, Some, None, IfSome, IfOk, Result, ◌⊎◌, inl, inr, refl}
 use Rattle.wb_outer.specs.Faults.{Rose}
 use Rattle.workbench.specs.declared.status.Status.{Status}
 use Rattle.workbench.specs.declared.status.Status.TheVariants.{Done, ShelfFault, SinkFault, NoMemory}
@@ -10,7 +9,7 @@ use Rattle.workbench.specs.Words.{Task, task_of, files_of}
 use Rattle.workbench.specs.Answers.{is_due, not_built, cannot_read}
 use Rattle.workbench.specs.Steps.{Files, IsStep, IsDecision, IsShelfFault, Concludes}
 use Rattle.workbench.specs.Opening.{task_due, answer_for, answer_to}
-use Rattle.workbench.specs.Runs.{Prints, Fails, IsPrinted, IsShelfFaultPrinted, IsCut, IsComplete}
+use Rattle.workbench.specs.Runs.{Prints, IsPrinted, IsShelfFaultPrinted, IsCut, IsComplete}
 use Rattle.workbench.proofs.Decisions.{concluded_step, not_built_decision}
 
 pub decided_task : {E : Type 0} (words : List (List ℕ)) (task : Task) (step : Result Answer Stop) (result : Result Answer E) (files : Option Files) (a0 a1 : List (List ℕ)) (f0 f1 : ℕ)

@@ -1,13 +1,13 @@
 -- What a private reader finds is a step that asks nothing of the shelf.
-use Rattle.std.proofs.Common.{◌≡◌, ◌∙◌, sym, ap, ℕ, ◌≤◌, true, List, [], ◌∷◌, ◌++◌, append-nil, Option, Some, None, IfSome, Result, Ok, Err, refl, arith, subst}
+use Rattle.std.proofs.Common.{◌≡◌, ◌∙◌, sym, ap, ℕ, ◌≤◌, List, [], ◌∷◌, ◌++◌, append-nil, Option, Some, None, IfSome, Result, Ok, Err, arith, subst}
 use Rattle.workbench.specs.declared.answer.Answer.{Answer}
 use Rattle.workbench.specs.declared.answer.Stop.{Stop}
 use Rattle.workbench.specs.declared.answer.Stop.TheVariants as stop
 use Rattle.workbench.specs.declared.refusal.Refusal.{Refusal}
 use Rattle.workbench.specs.declared.refusal.Refusal.TheVariants as refusal
 use Rattle.workbench.specs.Refusal.{Finds}
-use Rattle.workbench.specs.Answers.{Due, is_due, or_not_built, not_built}
-use Rattle.workbench.specs.Steps.{Files, Settles, Faults, AsksFront, Asks, IsStep, Ends, Turns}
+use Rattle.workbench.specs.Answers.{or_not_built}
+use Rattle.workbench.specs.Steps.{Files, AsksFront, IsStep, Turns}
 use Rattle.workbench.proofs.TakenFiles.{not_built_is_due}
 
 pub always : (files : Option Files) (P : Type 0) → P → IfSome files (λ told. P)

@@ -1,7 +1,7 @@
 -- What is true of the parts that a text gives over a metamodel.
 use Rattle.std.specs.Prelude.{IsTrue}
-use Rattle.std.proofs.Common.{◌≡◌, ◌↔◌, ◌<◌, ◌≤◌, ℕ, List, [], ◌∷◌, Bool, true, false, not, cond, ◌&&◌, nat_eq, nat_le, Option, Some, None, length, map, ltb, arith, refl, sym, ap, ◌∙◌, subst}
-use Rattle.std.specs.List.{list_any, list_all, position, position_or_len}
+use Rattle.std.proofs.Common.{◌≡◌, ◌↔◌, ◌<◌, ◌≤◌, ℕ, List, [], ◌∷◌, Bool, true, false, not, cond, ◌&&◌, nat_eq, nat_le, Some, None, length, map, ltb, arith, refl, sym, ap, ◌∙◌, subst}
+use Rattle.std.specs.List.{list_any, list_all, position_or_len}
 use Rattle.std.proofs.lemmas.Bool.{and_from, and_parts, false_from_ne_true, ltb-true, lt-ltb, leb-true, cond-true, cond-false}
 use Rattle.std.proofs.lemmas.List.{length-map}
 use Rattle.std.proofs.lemmas.List.Folds.{list_all-map}

@@ -10,7 +10,7 @@ use Rattle.workbench.specs.declared.viewpoint.Viewpoint.{Viewpoint}
 use Rattle.workbench.specs.declared.viewpoint_text.MappingText.{MappingText}
 use Rattle.workbench.specs.declared.viewpoint_text.DiagramText.{DiagramText}
 use Rattle.workbench.specs.Search.{◌>>=◌, each}
-use Rattle.workbench.specs.Viewpoint.{mapping_for, fitting, mapping_named, top_for, parts_for, viewpoint_for, thin_viewpoint, has_thin_counts, is_each_once, style_for, has_feature, label_fits}
+use Rattle.workbench.specs.Viewpoint.{mapping_for, fitting, mapping_named, top_for, parts_for, viewpoint_for, thin_viewpoint, has_thin_counts}
 use Rattle.std.specs.Result.{result_ok}
 use Rattle.wb_json.specs.Json.{json_of}
 use Rattle.workbench.specs.ViewpointText.{viewpoint_of}
@@ -22,7 +22,7 @@ use Rattle.workbench.specs.Over.{IsOver}
 use Rattle.workbench.specs.Refusal.{Finds}
 use Rattle.workbench.specs.declared.refusal.Refusal.{Refusal}
 use Rattle.workbench.specs.declared.answer.Stop.{Stop}
-use Rattle.workbench.specs.Steps.{Turns, Ends}
+use Rattle.workbench.specs.Steps.{Turns}
 use Rattle.workbench.specs.declared.refusal.Refusal.TheVariants as refusal
 
 -- what a search goes on with

@@ -1,6 +1,6 @@
 -- What `strip_prefix` at a text says, as a function.
-use Rattle.std.proofs.Common.{◌≡◌, ◌∙◌, sym, ap, ℕ, List, Bool, true, false, length, drop, Option, Some, None, option_map, refl, cond, subst}
-use Rattle.std.specs.Option.{MatchOption, is_some}
+use Rattle.std.proofs.Common.{◌≡◌, ◌∙◌, sym, ap, ℕ, List, true, false, length, drop, Option, Some, None, option_map, cond, subst}
+use Rattle.std.specs.Option.{MatchOption}
 use Rattle.std.specs.List.{starts_with}
 use Rattle.std.specs.Str.Pattern.{FindsTextPrefix, StripsPrefix}
 use Rattle.std.proofs.lemmas.Str.Pattern.{starts_text}

@@ -1,10 +1,10 @@
 -- Steps one after another.
-use Rattle.std.proofs.Common.{◌≡◌, ◌∙◌, sym, ap, ℕ, zero, suc, ◌+◌, ◌≤◌, min, List, [], ◌∷◌, ◌++◌, length, take, Option, Some, None, IfSome, Result, Ok, Err, refl, arith, append_assoc, append-nil}
+use Rattle.std.proofs.Common.{◌≡◌, ◌∙◌, ap, ℕ, zero, suc, ◌+◌, ◌≤◌, List, [], ◌∷◌, ◌++◌, take, Option, Some, None, IfSome, Result, Ok, Err, refl, arith, append_assoc, append-nil}
 use Rattle.wb_outer.specs.Faults.{Rose}
 use Rattle.workbench.specs.declared.answer.Stop.{Stop}
 use Rattle.workbench.specs.declared.answer.Stop.TheVariants as stop
 use Rattle.workbench.specs.Answers.{Due, ◌>>=◌}
-use Rattle.workbench.specs.Steps.{Files, Settles, Faults, IsShelfFault, AsksFront, Asks, IsStep}
+use Rattle.workbench.specs.Steps.{Files, Settles, Faults, AsksFront, Asks, IsStep}
 
 -- a front of the first names is a front of all
 front_of : (k : ℕ) (ns ms : List (List ℕ)) → (n : ℕ) × (take k ns ≡ take n (ns ++ ms))

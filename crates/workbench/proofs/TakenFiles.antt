@@ -1,5 +1,5 @@
 -- What a run does with a file that it takes from the shelf is a step.
-use Rattle.std.proofs.Common.{◌≡◌, ◌∙◌, sym, ap, ℕ, ◌≤◌, Bool, true, false, nat_le, cond, List, [], ◌∷◌, ◌++◌, length, take, Option, Some, None, IfSome, Result, Ok, Err, refl}
+use Rattle.std.proofs.Common.{◌≡◌, ◌∙◌, sym, ap, ℕ, ◌≤◌, Bool, true, false, nat_le, cond, List, [], ◌∷◌, ◌++◌, length, Option, Some, None, IfSome, Result, Ok, Err, refl}
 use Rattle.wb_outer.specs.Faults.{Rose}
 use Rattle.wb_outer.specs.Shelf.{file_limit, taken_of, IsUnlessFailed}
 use Rattle.wb_outer.specs.declared.shelf.Taken.{Taken}
@@ -8,7 +8,7 @@ use Rattle.workbench.specs.declared.answer.Answer.{Answer}
 use Rattle.workbench.specs.declared.answer.Stop.{Stop}
 use Rattle.workbench.specs.declared.answer.Stop.TheVariants as stop
 use Rattle.workbench.specs.Answers.{Due, is_due, taken, not_built, cannot_read}
-use Rattle.workbench.specs.Steps.{Files, Settles, Faults, IsShelfFault, AsksFront, Asks, IsStep, Goes}
+use Rattle.workbench.specs.Steps.{Files, AsksFront, IsStep, Goes}
 
 -- the bytes, where they are few enough
 abbrev pub sized : Bool → List ℕ → Due (List ℕ)

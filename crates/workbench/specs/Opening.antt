@@ -1,6 +1,6 @@
 -- The work of a run in its order: the metamodel is taken, sized and read, then the viewpoint, then the model;
 -- then the root element is found. The first failure ends it.
-use Rattle.std.specs.Prelude.{ℕ, List, Result, Ok, Err, Option, Some, None, option_map}
+use Rattle.std.specs.Prelude.{ℕ, List, Option, Some, None, option_map}
 use Rattle.std.specs.Result.{result_ok}
 use Rattle.wb_metamodel.specs.Metamodel.{Metamodel}
 use Rattle.wb_metamodel.specs.Checks.{metamodel}

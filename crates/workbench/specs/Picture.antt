@@ -1,8 +1,8 @@
 -- What a thin viewpoint declares for a model: the nodes in order, how they look, and the picture that is served.
-use Rattle.std.specs.Prelude.{ℕ, ◌-◌, ◌<◌, Bool, zero, suc, List, [], ◌∷◌, ◌++◌, length, map, filter, find, All, Option, Some, None, slice_get, if◌then◌else◌}
+use Rattle.std.specs.Prelude.{ℕ, ◌-◌, ◌<◌, Bool, zero, suc, List, [], ◌∷◌, ◌++◌, length, map, filter, find, Option, Some, None, slice_get, if◌then◌else◌}
 use Rattle.std.specs.Option.{option_map_or}
 use Rattle.std.specs.List.{flat_map, filter_map, slice_index_or}
-use Rattle.wb_metamodel.specs.Metamodel.{Metamodel, feature_named, feature_at, first_places}
+use Rattle.wb_metamodel.specs.Metamodel.{feature_named, feature_at, first_places}
 use Rattle.wb_metamodel.specs.declared.features.Feature.{Feature}
 use Rattle.wb_model.specs.declared.scalars.Scalar.{Scalar}
 use Rattle.wb_model.specs.declared.scalars.Scalar.TheVariants.{Int, Bool as Boolean, Text, Literal, Object}

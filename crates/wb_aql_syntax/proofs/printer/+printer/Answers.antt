@@ -1,7 +1,6 @@
 use Rattle.std.proofs.Common.{rules, arith, ◌≡◌, ◌≤◌, ◌+◌, suc, [], ◌∷◌, ◌++◌, true, false, drop, string_bytes, refl, sym, ap, ◌∙◌, subst}
 use Rattle.std.proofs.lemmas.List.{drop_more, drop_all}
 use Rattle.std.proofs.lemmas.Result.{on_ok_weaker}
-use Rattle.wb_aql_syntax.specs.Tree.{Tree, no_trees, trees, no_arguments, lambda, type_named, expression}
 use Rattle.wb_aql_syntax.specs.Tree as tree
 use Rattle.wb_aql_syntax.specs.View.{tree_of, trees_in, arguments_in}
 use Rattle.wb_aql_syntax.specs.Canonical.{blank, token, mark, apart, prefix, comma_if, enclosed, standing, stands, tightness, pieces, element_pieces, argument_pieces}

@@ -1,6 +1,5 @@
 use Rattle.wb_aql_syntax.proofs.Steps.{step_opening, no_opening_left}
 use Rattle.wb_aql_syntax.specs.Runs as run
-use Rattle.wb_aql_syntax.specs.Runs.{Runs}
 use Rattle.wb_aql_syntax.proofs.reading.enter.Goals as goal
 
 pub returns-in-Some-opened-clause-entered : goal.returns-in-Some-opened-clause-entered

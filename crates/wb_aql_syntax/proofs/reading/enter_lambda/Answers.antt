@@ -1,6 +1,5 @@
 use Rattle.wb_aql_syntax.proofs.Steps.{step_lambda, no_lambda_left}
 use Rattle.wb_aql_syntax.specs.Runs as run
-use Rattle.wb_aql_syntax.specs.Runs.{Runs}
 use Rattle.wb_aql_syntax.proofs.reading.enter_lambda.Goals as goal
 
 pub returns-in-Some-bound-clause-entered : goal.returns-in-Some-bound-clause-entered

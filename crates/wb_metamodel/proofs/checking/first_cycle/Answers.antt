@@ -1,6 +1,6 @@
-use Rattle.std.proofs.Common.{◌≡◌, ◌<◌, ℕ, List, Bool, Some, None, true, false, length, get_or, subst, sym, ap, ◌∙◌, arith}
+use Rattle.std.proofs.Common.{◌≡◌, ◌<◌, ℕ, true, false, length, get_or, subst, sym, ap, ◌∙◌, arith}
 use Rattle.std.specs.List.{find}
-use Rattle.wb_metamodel.specs.Metamodel.{is_below, numbers}
+use Rattle.wb_metamodel.specs.Metamodel.{is_below}
 use Rattle.wb_metamodel.specs.Tables.{below_table}
 use Rattle.wb_metamodel.proofs.TableLemmas.{length-below_table, length-below_row, below_read}
 use Rattle.wb_metamodel.proofs.Taken.{find-start, find-on, find-here, find-done}

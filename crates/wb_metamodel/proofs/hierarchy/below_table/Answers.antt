@@ -2,7 +2,7 @@ use Rattle.std.proofs.Common.{◌≡◌, ◌-◌, ◌<◌, List, [], length, map
 use Rattle.std.specs.List.{range_with_len}
 use Rattle.wb_metamodel.specs.declared.classes.Class.{Class}
 use Rattle.wb_metamodel.specs.Metamodel.{leads_through}
-use Rattle.wb_metamodel.specs.Tables.{table_of, direct_row, widened, below_table}
+use Rattle.wb_metamodel.specs.Tables.{table_of, direct_row, widened}
 use Rattle.wb_metamodel.proofs.Warshall.{direct-table, length-table, through-table, leads-table, ranged, at_last}
 use Rattle.wb_metamodel.proofs.hierarchy.below_table.Goals as goal
 

@@ -1,4 +1,4 @@
-use Rattle.std.proofs.Common.{◌≡◌, ◌-◌, length}
+use Rattle.std.proofs.Common.{◌≡◌, ◌-◌}
 use Rattle.std.specs.List.{range_with_len}
 use Rattle.wb_metamodel.specs.Metamodel.{leads_through}
 use Rattle.wb_metamodel.specs.Tables.{table_of}

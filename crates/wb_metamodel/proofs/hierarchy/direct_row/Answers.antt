@@ -1,8 +1,7 @@
-use Rattle.std.proofs.Common.{◌≡◌, ℕ, ◌<◌, eqb, false, length, get_or, take, ap, ◌∙◌, arith}
+use Rattle.std.proofs.Common.{◌≡◌, ℕ, ◌<◌, eqb, false, ap, ◌∙◌, arith}
 use Rattle.std.proofs.lemmas.List.{take_all}
 use Rattle.std.proofs.lemmas.List.FromFn.{fill_by_all}
 use Rattle.std.specs.List.{list_any}
-use Rattle.wb_metamodel.specs.Tables.{direct_row}
 use Rattle.wb_metamodel.proofs.hierarchy.direct_row.Goals as goal
 
 pub returns : goal.returns

@@ -1,6 +1,5 @@
 use Rattle.std.proofs.Common.{drop}
 use Rattle.std.specs.List.{enumerate_from}
-use Rattle.wb_json.specs.Form.{in_turn}
 use Rattle.wb_json.proofs.Turns.{Goes}
 use Rattle.wb_metamodel.specs.Resolving.{in_place, walked, class_resolved}
 use Rattle.wb_metamodel.proofs.resolving_classes.classes_resolved.Given as goal

@@ -1,6 +1,6 @@
 use Rattle.std.proofs.Common.{drop}
 use Rattle.std.specs.List.{enumerate_from}
-use Rattle.wb_json.specs.Form.{in_turn, or_wrong}
+use Rattle.wb_json.specs.Form.{or_wrong}
 use Rattle.wb_json.proofs.Turns.{Goes}
 use Rattle.wb_metamodel.specs.Resolving.{in_place, walked, class_number}
 use Rattle.wb_metamodel.proofs.resolving_classes.supertypes.Given as goal

@@ -1,7 +1,6 @@
-use Rattle.std.proofs.Common.{◌≡◌, ◌<◌, ◌∙◌, sym, ap, subst, Some, None, Err, Option, ℕ, true, false, ◌&&◌, ltb, cond, ◌^◌, arith}
+use Rattle.std.proofs.Common.{◌≡◌, ◌<◌, ◌∙◌, ℕ, ◌&&◌, ◌^◌}
 use Rattle.std.proofs.lemmas.Result.{err_from_is_err_and}
 use Rattle.wb_model.specs.Broken.{broken}
-use Rattle.wb_model.specs.Flaws.{Finds}
 use Rattle.wb_model.proofs.Findings.{raised, passed_on}
 use Rattle.wb_model.proofs.checks.check_all.Goals as goal
 

@@ -1,11 +1,11 @@
-use Rattle.std.proofs.Common.{◌≡◌, ◌∙◌, sym, ap, subst, Some, None, Err, Bool, true, false, cond}
+use Rattle.std.proofs.Common.{◌≡◌, ◌∙◌, sym, ap, subst, Some, None, Err, true, false, cond}
 use Rattle.std.proofs.lemmas.Bool.{false_from_ne_true, false≢true}
 use Rattle.std.proofs.lemmas.Result.{err_from_is_err_and}
 use Rattle.std.specs.Option.{option_or}
-use Rattle.wb_model.specs.Broken.{shown_by, least, broken_holding}
+use Rattle.wb_model.specs.Broken.{shown_by, broken_holding}
 use Rattle.wb_model.specs.Flaws.{Finds}
-use Rattle.wb_model.specs.ValidTest.{is_within, roots_are_uncontained}
-use Rattle.wb_model.proofs.Findings.{raised, passed_on}
+use Rattle.wb_model.specs.ValidTest.{roots_are_uncontained}
+use Rattle.wb_model.proofs.Findings.{raised}
 use Rattle.wb_model.proofs.ValidTest.{roots-decided}
 use Rattle.wb_model.proofs.checks.check_holding.Goals as goal
 

@@ -1,9 +1,9 @@
-use Rattle.std.proofs.Common.{◌≡◌, ◌<◌, ◌∙◌, sym, ap, subst, Some, None, Err, Option, ℕ, true, false, ◌&&◌, ltb, cond, ◌^◌, arith, refl}
+use Rattle.std.proofs.Common.{◌≡◌, ◌<◌, ◌∙◌, sym, ap, subst, Some, None, ℕ, true, false, ◌&&◌, ltb, cond, ◌^◌, arith, refl}
 use Rattle.std.proofs.lemmas.Bool.{and_from, lt-ltb}
 use Rattle.std.specs.Option.{option_or}
 use Rattle.wb_model.specs.Broken.{shown_by, least, is_misnumbered, broken_number}
 use Rattle.wb_model.specs.Flaws.{Finds}
-use Rattle.wb_model.proofs.Findings.{raised, passed_on}
+use Rattle.wb_model.proofs.Findings.{passed_on}
 use Rattle.wb_model.proofs.checks.check_numbers.Goals as goal
 
 pub returns-then-next-eq0 : goal.returns-then-next-eq0

@@ -1,8 +1,6 @@
-use Rattle.std.proofs.Common.{◌≡◌, ◌∙◌, sym, ap, subst, Some, None, Err, Option, ℕ}
+use Rattle.std.proofs.Common.{◌≡◌, ◌∙◌, sym, ap, subst, Err, ℕ}
 use Rattle.std.proofs.lemmas.Result.{err_from_is_err_and}
-use Rattle.std.specs.Option.{option_or}
-use Rattle.wb_model.specs.declared.conditions.Condition.TheVariants.{OfKinds, Differ, HeldBack}
-use Rattle.wb_model.specs.Broken.{shown_by, least, breaks, broken_values}
+use Rattle.wb_model.specs.Broken.{shown_by, broken_values}
 use Rattle.wb_model.specs.Flaws.{Finds}
 use Rattle.wb_model.proofs.Findings.{raised, passed_on}
 use Rattle.wb_model.proofs.checks.check_values.Goals as goal

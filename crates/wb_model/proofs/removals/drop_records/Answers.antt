@@ -1,9 +1,6 @@
-use Rattle.std.proofs.Common.{◌≡◌, ◌∙◌, ap, rules, ℕ, List}
-use Rattle.std.specs.Prelude.{filter, not}
+use Rattle.std.proofs.Common.{◌≡◌, ◌∙◌, rules, ℕ}
 use Rattle.std.proofs.lemmas.Fn.{filter_same}
-use Rattle.wb_model.specs.declared.scalars.Scalar.{Scalar}
 use Rattle.wb_model.specs.declared.records.Record.{Record}
-use Rattle.wb_model.specs.Edits.{is_among, is_value_among}
 use Rattle.wb_model.specs.Removals.{stays}
 use Rattle.wb_model.proofs.removals.drop_records.Goals as goal
 

@@ -1,6 +1,6 @@
-use Rattle.std.proofs.Common.{◌≡◌, ◌∙◌, sym, ap, subst, Bool, List, ℕ, Option, length}
+use Rattle.std.proofs.Common.{◌≡◌, ◌∙◌, ap, subst, List, ℕ, Option}
 use Rattle.wb_model.specs.Marks.{first_marked}
-use Rattle.wb_model.specs.Rings.{AreMet, IsFarAbove}
+use Rattle.wb_model.specs.Rings.{AreMet}
 use Rattle.wb_model.specs.ValidTest.{is_within}
 use Rattle.wb_model.proofs.LinkLemmas.{contained_once}
 use Rattle.wb_model.proofs.Marked.{marked_least}

@@ -1,7 +1,6 @@
-use Rattle.std.proofs.Common.{◌∙◌, ap, rules, not, List}
+use Rattle.std.proofs.Common.{◌∙◌, ap, rules, not}
 use Rattle.std.specs.Prelude.{filter}
 use Rattle.std.proofs.lemmas.Fn.{filter_same}
-use Rattle.wb_model.specs.declared.scalars.Scalar.{Scalar}
 use Rattle.wb_model.specs.Scalars.{same}
 use Rattle.wb_model.proofs.slots.drop_same.Goals as goal
 

@@ -1,9 +1,5 @@
-use Rattle.std.proofs.Common.{◌≡◌, ℕ, ◌≤◌, true, List, length, Result, Ok, Err, subst, rules}
-use Rattle.std.proofs.lemmas.Cmp.{nat_cmp_total}
-use Rattle.std.proofs.lemmas.List.Sorted.{answers_always, searchable_from_sorted}
-use Rattle.std.specs.Ordering.{nat_cmp}
-use Rattle.std.specs.List.Sorted.{IsBinarySearchResult, IsSearchInRange}
-use Rattle.wb_model.specs.Places.{rises}
+use Rattle.std.proofs.Common.{◌≡◌, ℕ, ◌≤◌, subst, rules}
+use Rattle.std.proofs.lemmas.List.Sorted.{answers_always}
 use Rattle.wb_model.specs.Records.{feature_of}
 use Rattle.wb_model.specs.Slots.{IsPlaceOrGap}
 use Rattle.wb_model.proofs.Placed.{place_or_gap}

@@ -1,10 +1,8 @@
 use Rattle.std.proofs.Common.{◌≡◌, ◌∙◌, sym, subst, List, []}
 use Rattle.std.specs.Prelude.{Some, None}
-use Rattle.wb_model.specs.declared.scalars.Scalar.{Scalar}
 use Rattle.wb_model.specs.declared.records.Slot.{Slot}
 use Rattle.wb_model.specs.Places.{IsPlaceOf}
-use Rattle.wb_model.specs.Records.{feature_of, values_in}
-use Rattle.wb_model.specs.Slots.{SlotsChange}
+use Rattle.wb_model.specs.Records.{feature_of}
 use Rattle.wb_model.proofs.SlotLemmas.{change_is, change_none, change_at, values_there, no_values}
 use Rattle.wb_model.proofs.slots.take_values.Goals as goal
 

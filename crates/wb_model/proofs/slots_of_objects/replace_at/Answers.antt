@@ -1,13 +1,10 @@
-use Rattle.std.proofs.Common.{◌≡◌, ◌∙◌, ◌++◌, ◌∷◌, [], ap, sym, subst, List}
-use Rattle.std.specs.Prelude.{Some, None, filter, not}
-use Rattle.wb_model.specs.declared.scalars.Scalar.{Scalar}
+use Rattle.std.proofs.Common.{◌≡◌, ◌∙◌, ◌++◌, ◌∷◌, [], subst, List}
+use Rattle.std.specs.Prelude.{Some, None}
 use Rattle.wb_model.specs.declared.records.Record.{Record}
-use Rattle.wb_model.specs.Places.{IsPlaceOf, numbered}
+use Rattle.wb_model.specs.Places.{IsPlaceOf}
 use Rattle.wb_model.specs.Records.{id_of}
-use Rattle.wb_model.specs.Scalars.{same}
-use Rattle.wb_model.specs.Slots.{held_at, RecordsChange}
 use Rattle.wb_model.proofs.Found.{numbered_none}
-use Rattle.wb_model.proofs.RecordLemmas.{held_out, put_back, records_is, records_same, none_held, none_some, on_ok, on_err}
+use Rattle.wb_model.proofs.RecordLemmas.{held_out, put_back, records_is, none_some, on_ok, on_err}
 use Rattle.wb_model.proofs.slots_of_objects.replace_at.Goals as goal
 
 pub unreachable-requires : goal.unreachable-requires

@@ -1,6 +1,4 @@
-use Rattle.std.proofs.Common.{List}
 use Rattle.std.proofs.lemmas.Result.{err_from_is_err_and}
-use Rattle.wb_model.specs.declared.parts.Part.{Part}
 use Rattle.wb_model_json.specs.declared.model_text.ModelText.{ModelText}
 use Rattle.wb_model_json.specs.Refusals.{◌>>=◌}
 use Rattle.wb_model_json.specs.ModelFile.{model, read_text, checked_parts, made}

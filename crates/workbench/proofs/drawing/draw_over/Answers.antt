@@ -1,6 +1,6 @@
 use Rattle.std.proofs.Common.{[], ◌∷◌}
 use Rattle.workbench.specs.Tasks.{shown_sources}
-use Rattle.workbench.specs.Opening.{drawing, drawing_over, drawing_under, metamodel_due, viewpoint_due, model_due}
+use Rattle.workbench.specs.Opening.{drawing_over, drawing_under, viewpoint_due}
 use Rattle.workbench.proofs.StepLemmas.{stopped, gone_on}
 use Rattle.workbench.proofs.drawing.draw_over.Goals as goal
 

@@ -1,5 +1,5 @@
 use Rattle.std.proofs.Common.{◌≤◌, length, arith}
-use Rattle.wb_metamodel.specs.WellFormed.{WellFormed, IsWellFormed}
+use Rattle.wb_metamodel.specs.WellFormed.{IsWellFormed}
 use Rattle.wb_metamodel.proofs.metamodel.Metamodel.class_count.Goals as goal
 
 pub overflow_cast-result : goal.overflow_cast-result

@@ -1,8 +1,7 @@
 use Rattle.std.proofs.Common.{◌≡◌, ◌<◌, Some, None, length, get_or, subst, sym, ap, ◌∙◌, arith}
-use Rattle.std.proofs.lemmas.Option.{same_Some, slice_get_within, get_or_from_slice_get}
-use Rattle.std.specs.List.{slice_get}
+use Rattle.std.proofs.lemmas.Option.{slice_get_within, get_or_from_slice_get}
 use Rattle.wb_metamodel.specs.Metamodel as definition
-use Rattle.wb_metamodel.specs.Tables.{entry, feature_place}
+use Rattle.wb_metamodel.specs.Tables.{entry}
 use Rattle.wb_metamodel.proofs.TableLemmas.{entry-row, entry-cell, feature_named-unknown}
 use Rattle.wb_metamodel.proofs.metamodel.Metamodel.feature_named.Goals as goal
 

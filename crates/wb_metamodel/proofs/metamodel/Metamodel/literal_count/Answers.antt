@@ -1,11 +1,11 @@
-use Rattle.std.proofs.Common.{◌≡◌, ◌≤◌, ◌<◌, ◌∙◌, List, [], ℕ, length, get_or, subst, ap, sym, arith}
+use Rattle.std.proofs.Common.{◌≡◌, ◌≤◌, ◌<◌, ◌∙◌, List, [], ℕ, length, get_or, ap, sym, arith}
 use Rattle.std.specs.List.{sum_by, slice_get}
 use Rattle.std.specs.Option.{option_map_or}
 use Rattle.std.proofs.lemmas.List.Sums.{get_or-le-sum_by}
 use Rattle.std.proofs.lemmas.Option.{slice_get-get_or}
 use Rattle.wb_metamodel.specs.declared.classes.Enumeration.{Enumeration}
 use Rattle.wb_metamodel.specs.Metamodel as definition
-use Rattle.wb_metamodel.specs.WellFormed.{WellFormed, IsWellFormed}
+use Rattle.wb_metamodel.specs.WellFormed.{IsWellFormed}
 use Rattle.wb_metamodel.proofs.metamodel.Metamodel.literal_count.Goals as goal
 
 few : (xs ys : List Enumeration) (i : ℕ) (x : Enumeration) → ys ≡ xs → i < length ys → sum_by (λ (e : Enumeration). length e.literals) xs ≤ 10000 → length (get_or ys i x).literals ≤ 10000

@@ -1,7 +1,4 @@
-use Rattle.std.proofs.Common.{◌≡◌, drop}
-use Rattle.std.specs.List.{flat_map}
-use Rattle.wb_model.specs.Edits.{link, other_end}
-use Rattle.wb_model.specs.LinkSteps.{each_left}
+use Rattle.std.proofs.Common.{◌≡◌}
 use Rattle.wb_model.proofs.OtherEnds.{EndsLeave}
 use Rattle.wb_model.proofs.store.Store.drop_other_ends.Given as goal
 

@@ -1,7 +1,6 @@
 use Rattle.std.proofs.Common.{◌≡◌, ◌∙◌, ap, rules, ℕ, eqb, List}
 use Rattle.std.specs.Prelude.{filter, not}
 use Rattle.std.proofs.lemmas.Fn.{filter_same}
-use Rattle.wb_model.specs.Contents.{Contents}
 use Rattle.wb_model.specs.Edits.{without_root}
 use Rattle.wb_model.specs.Records.{contents_of}
 use Rattle.wb_model.proofs.store.Store.drop_root.Goals as goal

@@ -1,10 +1,8 @@
-use Rattle.std.proofs.Common.{◌∙◌, ◌≡◌, ap, sym, subst}
-use Rattle.wb_model.specs.Contents.{Contents, slot}
+use Rattle.std.proofs.Common.{◌∙◌, ◌≡◌, ap}
+use Rattle.wb_model.specs.Contents.{Contents}
 use Rattle.wb_model.specs.Edits.{link}
-use Rattle.wb_model.specs.LinkSteps.{with_link, with_only, without_link, without_slot}
-use Rattle.wb_model.specs.Records.{contents_of}
-use Rattle.wb_model.proofs.RecordLemmas.{on_ok, on_err}
-use Rattle.wb_model.proofs.Relinks.{put_shown, only_shown, drop_shown, empty_shown, same_shown, held_is, live_numbered, known_inside}
+use Rattle.wb_model.specs.LinkSteps.{without_link}
+use Rattle.wb_model.proofs.Relinks.{drop_shown, known_inside}
 use Rattle.wb_model.proofs.store.Store.drop_value.Goals as goal
 
 pub returns : goal.returns

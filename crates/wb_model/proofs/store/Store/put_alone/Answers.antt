@@ -1,10 +1,9 @@
-use Rattle.std.proofs.Common.{◌∙◌, ◌≡◌, ap, sym, subst}
-use Rattle.wb_model.specs.Contents.{Contents, slot}
+use Rattle.std.proofs.Common.{◌∙◌, ◌≡◌, ap}
+use Rattle.wb_model.specs.Contents.{Contents}
 use Rattle.wb_model.specs.Edits.{link}
-use Rattle.wb_model.specs.LinkSteps.{with_link, with_only, without_link, without_slot}
-use Rattle.wb_model.specs.Records.{contents_of}
+use Rattle.wb_model.specs.LinkSteps.{with_only}
 use Rattle.wb_model.proofs.RecordLemmas.{on_ok, on_err, records_is}
-use Rattle.wb_model.proofs.Relinks.{put_shown, only_shown, drop_shown, empty_shown, same_shown, held_is, live_numbered, known_inside}
+use Rattle.wb_model.proofs.Relinks.{only_shown, same_shown, live_numbered, known_inside}
 use Rattle.wb_model.proofs.store.Store.put_alone.Goals as goal
 
 pub replace_at-requires-clause-live : goal.replace_at-requires-clause-live

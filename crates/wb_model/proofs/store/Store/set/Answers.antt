@@ -1,4 +1,4 @@
-use Rattle.std.proofs.Common.{true, false}
+use Rattle.std.proofs.Common.{false}
 use Rattle.wb_model.specs.Edits.{link, refusal_of_link, link_up}
 use Rattle.wb_model.proofs.EditedLemmas.{told_on, done, accepted_value}
 use Rattle.wb_model.proofs.store.Store.set.Goals as goal

@@ -1,10 +1,7 @@
-use Rattle.std.proofs.Common.{◌∙◌, ◌≡◌, ap, sym, subst}
+use Rattle.std.proofs.Common.{◌∙◌, ◌≡◌, ap}
 use Rattle.wb_model.specs.Contents.{Contents, slot}
-use Rattle.wb_model.specs.Edits.{link}
-use Rattle.wb_model.specs.LinkSteps.{with_link, with_only, without_link, without_slot}
-use Rattle.wb_model.specs.Records.{contents_of}
-use Rattle.wb_model.proofs.RecordLemmas.{on_ok, on_err}
-use Rattle.wb_model.proofs.Relinks.{put_shown, only_shown, drop_shown, empty_shown, same_shown, held_is, live_numbered, known_inside}
+use Rattle.wb_model.specs.LinkSteps.{without_slot}
+use Rattle.wb_model.proofs.Relinks.{empty_shown, held_is, known_inside}
 use Rattle.wb_model.proofs.store.Store.take_values.Goals as goal
 
 pub returns-clause-taken : goal.returns-clause-taken

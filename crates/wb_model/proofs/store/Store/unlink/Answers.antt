@@ -2,7 +2,7 @@ use Rattle.std.proofs.Common.{◌≡◌, ◌<◌, ◌∙◌, ap, sym, subst, len
 use Rattle.wb_metamodel.specs.Metamodel.{Metamodel}
 use Rattle.wb_metamodel.specs.WellFormed.{WellFormed}
 use Rattle.wb_model.specs.Contents.{Contents}
-use Rattle.wb_model.specs.Edits.{Link, link, other_end, same_link}
+use Rattle.wb_model.specs.Edits.{link, other_end, same_link}
 use Rattle.wb_model.specs.LinkSteps.{each_left, without_link}
 use Rattle.wb_model.proofs.Comings.{metamodel-relink, unlink_steps}
 use Rattle.wb_model.proofs.store.Store.unlink.Goals as goal
