@@ -9,6 +9,7 @@ pub mod Numbered
 pub mod Paths
 pub mod Positions
 pub mod Ranks
+pub mod ReadNames
 pub mod Resolutions
 pub mod TableLemmas
 pub mod Taken

@@ -1,8 +1,8 @@
 -- What holds of a metamodel whose document was resolved.
-use Rattle.std.proofs.Common.{◌≡◌, ℕ, ◌+◌, ◌<◌, ◌≤◌, Bool, true, false, cond, eqb, List, [], ◌∷◌, ◌++◌, length, map, Option, Some, None, Result, Ok, Err, zero, suc, refl, sym, ap, ◌∙◌, subst, inl, inr, ⊎_elim, ◌⊎◌, arith}
+use Rattle.std.proofs.Common.{◌≡◌, ℕ, ◌+◌, ◌<◌, Bool, true, false, cond, eqb, List, [], ◌∷◌, ◌++◌, length, map, Option, Some, None, Result, Ok, Err, zero, suc, refl, sym, ap, ◌∙◌, subst, inl, inr, ⊎_elim, ◌⊎◌, arith}
 use Rattle.std.proofs.lemmas.Bool.{false≢true, or_cases, eqb-true}
 use Rattle.std.proofs.lemmas.Option.{none-some, same_Some, slice_get_within, slice_get-map}
-use Rattle.std.specs.List.{list_any, flat_map, enumerate_from, slice_get, position}
+use Rattle.std.specs.List.{list_any, flat_map, enumerate_from, slice_get}
 use Rattle.std.specs.Option.{option_map, option_map_or}
 use Rattle.wb_json.specs.Place.{Place, within, at_member, at_index}
 use Rattle.wb_json.specs.Form.{◌>>=◌, in_turn, or_wrong}
@@ -36,7 +36,7 @@ pub or_wrong_ok : {A : Type 0} (o : Option A) (v : A) → or_wrong o ≡ Ok v �
 or_wrong_ok (Some a) v h = cc
 or_wrong_ok None v h = cc
 
-same_ok : {A : Type 0} (a b : A) → ◌≡◌ {A = Result A Place} (Ok a) (Ok b) → a ≡ b
+pub same_ok : {A : Type 0} (a b : A) → ◌≡◌ {A = Result A Place} (Ok a) (Ok b) → a ≡ b
 same_ok a b h = cc
 
 -- what each element of a walk gave

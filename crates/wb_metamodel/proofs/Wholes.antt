@@ -1,27 +1,31 @@
 -- What a document gives that passed every check is well formed.
 use Rattle.std.proofs.Common.{◌≡◌, ℕ, ◌<◌, ◌^◌, true, List, length, Result, Ok, Err, ap, ◌∙◌, subst, arith}
 use Rattle.std.specs.Prelude.{codes, ⊤}
+use Rattle.wb_json.specs.Form.{or_wrong}
+use Rattle.wb_json.specs.Json.{json_of}
 use Rattle.wb_json.specs.Place.{Place, at_member}
 use Rattle.wb_metamodel.specs.declared.document.Document.{Document}
 use Rattle.wb_metamodel.specs.declared.resolving.ResolvedClass.{ResolvedClass}
+use Rattle.wb_metamodel.specs.Document.{document_of, HasNames}
 use Rattle.wb_metamodel.specs.Metamodel.{Metamodel, is_supertype}
 use Rattle.std.specs.List.{enumerate_from}
 use Rattle.wb_metamodel.specs.Resolving.{walked, class_resolved, content_of, resolved}
 use Rattle.wb_metamodel.specs.WellFormed.{IsWellFormed}
-use Rattle.wb_metamodel.specs.Checks.{each_from, check_enum_names, check_class_names, ◌>>=◌, unrepeated_names, no_cycle, no_clash, opposites_match, few, coded, resolve, later, check, Answers}
+use Rattle.wb_metamodel.specs.Checks.{each_from, check_enum_names, check_class_names, ◌>>=◌, unrepeated_names, no_cycle, no_clash, opposites_match, few, coded, read_document, resolve, later, check, Answers}
 use Rattle.wb_metamodel.specs.declared.refusal.MetamodelCode.{MetamodelCode}
-use Rattle.wb_metamodel.specs.declared.refusal.MetamodelCode.TheVariants.{SupertypeCycle, DuplicateName, UnknownName, OppositeMismatch, TooMany}
+use Rattle.wb_metamodel.specs.declared.refusal.MetamodelCode.TheVariants.{BadJson, BadShape, SupertypeCycle, DuplicateName, UnknownName, OppositeMismatch, TooMany}
 use Rattle.wb_metamodel.specs.declared.refusal.MetamodelRefusal.{MetamodelRefusal}
 use Rattle.wb_metamodel.specs.declared.refusal.MetamodelRefusal.TheVariants.{At, NoMemory}
 use Rattle.wb_metamodel.specs.Inherited.{IsHierarchy}
 use Rattle.wb_metamodel.proofs.Resolutions.{resolution, supertypes-known, features-known}
 use Rattle.wb_metamodel.proofs.Distinct.{then_ok, within_ok, classes-named, enumerations-named, literals-named}
+use Rattle.wb_metamodel.proofs.ReadNames.{document-names, classes-are-names, features-are-names, enumerations-are-names, literals-are-names}
 use Rattle.wb_metamodel.proofs.Checked.{is-acyclic, features-named, opposites-are, limits}
 
-of-content : (document : Document) (parts : List ResolvedClass) → walked (class_resolved document) (enumerate_from 0 document.classes) ≡ Ok parts → unrepeated_names document ≡ Ok tt
+of-content : (document : Document) (parts : List ResolvedClass) → HasNames document → walked (class_resolved document) (enumerate_from 0 document.classes) ≡ Ok parts → unrepeated_names document ≡ Ok tt
     → no_cycle (content_of document parts) ≡ Ok tt → no_clash (content_of document parts) ≡ Ok tt → opposites_match (content_of document parts) ≡ Ok tt → few (content_of document parts) ≡ Ok tt → IsWellFormed (content_of document parts)
 unfolding IsWellFormed unrepeated_names
-of-content document parts walk names cycle clash opposites small =
+of-content document parts written walk names cycle clash opposites small =
     let mm = content_of document parts in
     let first = then_ok (at_member (codes "enums") (each_from (check_enum_names document.enums) 0 document.enums)) _ tt names in
     let enums = within_ok _ (each_from (check_enum_names document.enums) 0 document.enums) tt first.1 in
@@ -36,6 +40,11 @@ of-content document parts walk names cycle clash opposites small =
       owners_known = λ f feature h. (features-known document parts walk f feature h).owner;
       kinds_known = λ f feature h. (features-known document parts walk f feature h).kind;
       acyclic = is-acyclic mm cycle;
+      package_is_a_name = written.package_name;
+      classes_are_names = classes-are-names document parts written walk;
+      features_are_names = features-are-names document parts written walk;
+      enumerations_are_names = enumerations-are-names document parts written;
+      literals_are_names = literals-are-names document parts written;
       classes_named = classes-named document parts walk classes;
       enumerations_named = enumerations-named document parts enums;
       literals_named = literals-named document parts enums;
@@ -44,15 +53,22 @@ of-content document parts walk names cycle clash opposites small =
       opposites = opposites-are mm opposites;
     }
 
-pub whole : (document : Document) (mm : Metamodel) → unrepeated_names document ≡ Ok tt → resolved document ≡ Ok mm → no_cycle mm ≡ Ok tt → no_clash mm ≡ Ok tt → opposites_match mm ≡ Ok tt → few mm ≡ Ok tt → IsWellFormed mm
-whole document mm names given =
+pub whole : (document : Document) (mm : Metamodel) → HasNames document → unrepeated_names document ≡ Ok tt → resolved document ≡ Ok mm → no_cycle mm ≡ Ok tt → no_clash mm ≡ Ok tt → opposites_match mm ≡ Ok tt → few mm ≡ Ok tt → IsWellFormed mm
+whole document mm written names given =
     let r = resolution document mm given in
     let P : Metamodel → Type 0 = λ m. no_cycle m ≡ Ok tt → no_clash m ≡ Ok tt → opposites_match m ≡ Ok tt → few m ≡ Ok tt → IsWellFormed m in
-    subst P r.is (of-content document r.parts r.walk names)
+    subst P r.is (of-content document r.parts written r.walk names)
 
 pub coded_ok : {A : Type 0} (code : MetamodelCode) (r : Result A Place) (v : A) → coded code r ≡ Ok v → r ≡ Ok v
 coded_ok code (Ok a) v h = cc
 coded_ok code (Err p) v h = cc
+
+-- a document that was read from a text has names alone
+pub names-read : (bytes : List ℕ) (document : Document) → read_document bytes ≡ Ok document → HasNames document
+unfolding read_document
+names-read bytes document h =
+    let a = then_ok (coded BadJson (or_wrong (json_of bytes))) _ document h in
+    document-names a.0 document (coded_ok BadShape (document_of a.0) document a.2)
 
 resolve-parts : (document : Document) (mm : Metamodel) → resolve document ≡ Ok mm → (unrepeated_names document ≡ Ok tt) × (resolved document ≡ Ok mm)
 unfolding resolve
@@ -74,12 +90,12 @@ known document mm h =
     let P : Metamodel → Type 0 = λ m. (c s : ℕ) → is_supertype m c s ≡ true → s < length m.classes in
     subst P r.is (supertypes-known document r.parts r.walk)
 
--- what passed every check is well formed
-pub passed : (document : Document) (mm : Metamodel) → resolve document ≡ Ok mm → no_cycle mm ≡ Ok tt → later mm ≡ Ok tt → IsWellFormed mm
-passed document mm h cycle rest =
+-- what passed every check is well formed, where the document has names alone
+pub passed : (document : Document) (mm : Metamodel) → HasNames document → resolve document ≡ Ok mm → no_cycle mm ≡ Ok tt → later mm ≡ Ok tt → IsWellFormed mm
+passed document mm written h cycle rest =
     let first = resolve-parts document mm h in
     let parts = later-parts mm rest in
-    whole document mm first.0 first.1 cycle parts.0 parts.1 parts.2
+    whole document mm written first.0 first.1 cycle parts.0 parts.1 parts.2
 
 -- what copying needs of a metamodel
 pub hierarchy-of : (mm : Metamodel) → IsWellFormed mm → IsHierarchy mm

@@ -1,9 +1,9 @@
 -- The form of a metamodel's text: a package with enumerations and classes.
 -- Absent booleans are false, and absent lists are empty.
-use Rattle.std.specs.Prelude.{ℕ, [], ◌∷◌, false, if◌then◌else◌, Result, Ok, unwrap_or, codes}
+use Rattle.std.specs.Prelude.{◌≡◌, ℕ, List, [], ◌∷◌, true, false, if◌then◌else◌, Some, slice_get, Result, Ok, unwrap_or, codes}
 use Rattle.serde_json.specs.Data.{Data}
 use Rattle.wb_json.specs.Place.{Place}
-use Rattle.wb_json.specs.Form.{◌>>=◌, listed, needed, optional, list_or_empty, has, list_of, name_of, bool_of}
+use Rattle.wb_json.specs.Form.{◌>>=◌, listed, needed, optional, list_or_empty, has, list_of, is_name, name_of, bool_of}
 use Rattle.wb_metamodel.specs.declared.document.Document.{Document}
 use Rattle.wb_metamodel.specs.declared.document.EnumPart.{EnumPart}
 use Rattle.wb_metamodel.specs.declared.document.ClassPart.{ClassPart}
@@ -55,3 +55,11 @@ document_of d = do
   enums ← list_or_empty (codes "enums") enum_of d
   classes ← needed (codes "classes") (list_of class_of) d
   Ok (record { package_name = package_name; enums = enums; classes = classes })
+
+-- the names that a document gives to what it declares are names
+pub record HasNames (document : Document) : Type 0 where
+  pub package_name : is_name document.package_name ≡ true
+  pub classes : (c : ℕ) (part : ClassPart) → slice_get document.classes c ≡ Some part → is_name part.name ≡ true
+  pub features : (c i : ℕ) (owner : ClassPart) (part : FeaturePart) → slice_get document.classes c ≡ Some owner → slice_get owner.features i ≡ Some part → is_name part.name ≡ true
+  pub enums : (e : ℕ) (part : EnumPart) → slice_get document.enums e ≡ Some part → is_name part.name ≡ true
+  pub literals : (e l : ℕ) (part : EnumPart) (literal : List ℕ) → slice_get document.enums e ≡ Some part → slice_get part.literals l ≡ Some literal → is_name literal ≡ true

@@ -1,5 +1,6 @@
 -- What is true of every metamodel that was read.
-use Rattle.std.specs.Prelude.{◌≡◌, ◌≢◌, ℕ, ◌<◌, ◌≤◌, true, false, ◌&&◌, List, length, Contains, Some, slice_get}
+use Rattle.std.specs.Prelude.{◌≡◌, ◌≢◌, ℕ, ◌<◌, ◌≤◌, true, false, List, length, Contains, Some, slice_get}
+use Rattle.wb_json.specs.Form.{is_name}
 use Rattle.wb_metamodel.specs.declared.classes.Class.{Class}
 use Rattle.wb_metamodel.specs.declared.classes.Enumeration.{Enumeration}
 use Rattle.wb_metamodel.specs.declared.features.Feature.{Feature}
@@ -40,6 +41,12 @@ pub record WellFormed (mm : Metamodel) : Type 0 where
   pub kinds_known : (f : ℕ) (feature : Feature) → feature_at mm f ≡ Some feature → KindIsKnown mm feature.kind
   -- no class is its own supertype
   pub acyclic : (c : ℕ) → is_below mm c c ≡ false
+  -- every name is one: a letter or `_`, then letters, digits and `_`, at most 64 bytes
+  pub package_is_a_name : is_name mm.package_name ≡ true
+  pub classes_are_names : (c : ℕ) (class : Class) → class_at mm c ≡ Some class → is_name class.name ≡ true
+  pub features_are_names : (f : ℕ) (feature : Feature) → feature_at mm f ≡ Some feature → is_name feature.name ≡ true
+  pub enumerations_are_names : (e : ℕ) (enumeration : Enumeration) → enum_at mm e ≡ Some enumeration → is_name enumeration.name ≡ true
+  pub literals_are_names : (e l : ℕ) (enumeration : Enumeration) (literal : List ℕ) → enum_at mm e ≡ Some enumeration → slice_get enumeration.literals l ≡ Some literal → is_name literal ≡ true
   -- what has a name is found by it
   pub classes_named : (c : ℕ) (class : Class) → class_at mm c ≡ Some class → class_named mm class.name ≡ Some c
   pub enumerations_named : (e : ℕ) (enumeration : Enumeration) → enum_at mm e ≡ Some enumeration → enum_named mm enumeration.name ≡ Some e

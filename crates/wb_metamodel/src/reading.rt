@@ -1,5 +1,6 @@
 ghost use Rattle.std.specs.Prelude.{◌≡◌, Ok, IfOk, codes, ◌++◌};
 ghost use Rattle.wb_json.specs.Form.{Gives};
+ghost use Rattle.wb_metamodel.specs.Document.{HasNames};
 ghost use Rattle.wb_metamodel.specs.Tables.{TablesOf};
 ghost use Rattle.wb_metamodel.specs.Checks.{Answers, Refuses, coded, metamodel, read_document, resolve, check, later};
 
@@ -65,7 +66,8 @@ fn checked(
     document: &Document,
     content: Content,
 ) -> Result<Metamodel, MetamodelRefusal>
-    requires { resolve document.now ≡ Ok content }
+    requires names { HasNames document.now }
+    requires resolved { resolve document.now ≡ Ok content }
     ensures { Answers result (check content) }
 {
     if content.classes.len() > u32::MAX as usize || content.features.len() > u32::MAX as usize {

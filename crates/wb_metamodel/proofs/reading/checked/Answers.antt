@@ -1,16 +1,16 @@
-use Rattle.std.proofs.Common.{◌≡◌, Ok, sym, ap, ◌∙◌, arith}
+use Rattle.std.proofs.Common.{Ok, sym, ap, ◌∙◌, arith}
 use Rattle.wb_metamodel.specs.declared.refusal.MetamodelCode.TheVariants.{SupertypeCycle}
 use Rattle.wb_metamodel.specs.Checks.{no_cycle}
 use Rattle.wb_metamodel.proofs.Wholes.{coded_ok, known, hierarchy-from, passed, check-ok, check-refused}
 use Rattle.wb_metamodel.proofs.reading.checked.Goals as goal
 
 pub below_table-requires : goal.below_table-requires
-below_table-requires c = known c.args.document.now c.args.content c.requires
+below_table-requires c = known c.args.document.now c.args.content c.requires.resolved
 
 pub tables-requires-clause-hierarchy : goal.tables-requires-clause-hierarchy
 tables-requires-clause-hierarchy c =
     let cycle = coded_ok SupertypeCycle (no_cycle c.args.content) tt (c.in_ok-coded.ensures (no_cycle c.args.content) c.no_cycle.ensures) in
-    hierarchy-from c.args.document.now c.args.content c.requires cycle (omega (arith, c.len.ensures, c.if-len.false)) (omega (arith, c.len-else-len.ensures, c.if-len-2.false))
+    hierarchy-from c.args.document.now c.args.content c.requires.resolved cycle (omega (arith, c.len.ensures, c.if-len.false)) (omega (arith, c.len-else-len.ensures, c.if-len-2.false))
 
 pub returns-in-Err : goal.returns-in-Err
 returns-in-Err c =
@@ -20,7 +20,7 @@ returns-in-Err c =
 pub new-requires-clause-well_formed : goal.new-requires-clause-well_formed
 new-requires-clause-well_formed c =
     let cycle = coded_ok SupertypeCycle (no_cycle c.args.content) tt (c.in_ok-coded.ensures (no_cycle c.args.content) c.no_cycle.ensures) in
-    passed c.args.document.now c.args.content c.requires cycle c.in-Ok.ensures
+    passed c.args.document.now c.args.content c.requires.names c.requires.resolved cycle c.in-Ok.ensures
 
 pub returns-in-Ok : goal.returns-in-Ok
 returns-in-Ok c =
