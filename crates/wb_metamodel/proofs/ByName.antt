@@ -1,16 +1,16 @@
 -- The features of a class by their names, and the classes that have two features of one name.
-use Rattle.std.proofs.Common.{◌≡◌, ℕ, ◌+◌, ◌<◌, ◌≤◌, Bool, true, false, not, cond, ◌&&◌, ◌||◌, eqb, List, [], ◌∷◌, ◌++◌, length, map, take, get_or, set, length-set, get_or-set_same, get_or-set_other, Option, Some, None, zero, suc, refl, sym, ap, ◌∙◌, subst, ⊎_elim, arith}
+use Rattle.std.proofs.Common.{◌≡◌, ℕ, ◌+◌, ◌<◌, Bool, true, false, not, cond, ◌&&◌, eqb, List, [], ◌∷◌, ◌++◌, length, map, take, get_or, set, length-set, get_or-set_same, get_or-set_other, Option, Some, None, zero, suc, refl, sym, ap, ◌∙◌, subst, ⊎_elim, arith}
 use Rattle.std.specs.Prelude.{unwrap_or, All}
 use Rattle.std.proofs.lemmas.List.{take_more, get_or_default}
 use Rattle.std.proofs.lemmas.List.Folds.{find-append}
-use Rattle.std.proofs.lemmas.Bool.{false≢true, true≢false, cases_Bool, cases_eq, both_ways, or_cases, or_left, or_right, and_parts, and_from, not-true, eqb-true, eq-eqb, ne_eqb, cond-true, cond-false}
-use Rattle.std.proofs.lemmas.Option.{none-some, same_Some, slice_get_within, slice_get-map, slice_get-get_or, slice_get_read, get_or_from_slice_get}
+use Rattle.std.proofs.lemmas.Bool.{false≢true, cases_Bool, cases_eq, both_ways, or_cases, or_left, or_right, and_parts, and_from, not-true, eqb-true, eq-eqb, ne_eqb, cond-true, cond-false}
+use Rattle.std.proofs.lemmas.Option.{same_Some, slice_get_within, slice_get-map, slice_get-get_or, slice_get_read, get_or_from_slice_get}
 use Rattle.std.specs.Cmp.Lexicographic.{bytes_decides, nat_list_eq_equiv}
-use Rattle.std.specs.List.{list_any, find, slice_get, position, AllZip}
+use Rattle.std.specs.List.{list_any, find, slice_get, AllZip}
 use Rattle.std.specs.Option.{option_map, option_map_or, option_and_then, option_or}
 use Rattle.wb_metamodel.specs.declared.features.Feature.{Feature}
 use Rattle.wb_metamodel.specs.Metamodel.{Metamodel, same_name, names_feature, numbers, features_of, feature_at, feature_named}
-use Rattle.wb_metamodel.specs.Tables.{features_table, feature_place, entry, placed, is_other, HasRow, IsByName}
+use Rattle.wb_metamodel.specs.Tables.{features_table, feature_place, placed, is_other, HasRow, IsByName}
 use Rattle.wb_metamodel.specs.Checks.{is_name_of, clashes, has_clash}
 use Rattle.wb_metamodel.proofs.Positions.{position-Some, position-None}
 use Rattle.wb_metamodel.proofs.Zips.{zip-length, zip-at}

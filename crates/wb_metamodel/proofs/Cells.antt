@@ -1,5 +1,5 @@
 -- Lists by their elements.
-use Rattle.std.proofs.Common.{◌≡◌, ℕ, ◌+◌, ◌<◌, ◌≤◌, Bool, false, ◌||◌, List, [], ◌∷◌, length, get_or, zero, suc, refl, ap, ◌∙◌, arith}
+use Rattle.std.proofs.Common.{◌≡◌, ℕ, ◌<◌, ◌≤◌, Bool, false, ◌||◌, List, [], ◌∷◌, length, get_or, zero, suc, refl, ap, ◌∙◌, arith}
 use Rattle.wb_metamodel.specs.Tables.{or_row}
 
 -- lists of one length with equal elements are equal

@@ -1,8 +1,8 @@
 -- A metamodel that passed every check is well formed.
-use Rattle.std.proofs.Common.{◌≡◌, ◌≢◌, ℕ, ◌+◌, ◌<◌, ◌≤◌, Bool, true, false, not, cond, ◌&&◌, ◌||◌, eqb, leb, List, [], ◌∷◌, length, Option, Some, None, Result, Ok, Err, get_or, refl, sym, ap, ◌∙◌, subst, inl, inr, ⊎_elim, ◌⊎◌, arith}
+use Rattle.std.proofs.Common.{◌≡◌, ◌≢◌, ℕ, ◌<◌, ◌≤◌, Bool, true, false, not, cond, ◌&&◌, ◌||◌, eqb, leb, List, [], ◌∷◌, length, Option, Some, None, Result, Ok, Err, get_or, refl, sym, ap, ◌∙◌, subst, inl, inr, ⊎_elim, ◌⊎◌, arith}
 use Rattle.std.specs.Prelude.{⊤, Contains}
 use Rattle.std.proofs.lemmas.Bool.{false≢true, true≢false, cases_lt, false_from_ne_true, not-false, or_parts, and_parts, and_cases, eqb-true, eqb-false, eq-eqb, leb-true}
-use Rattle.std.proofs.lemmas.Option.{none-some, same_Some, slice_get_within}
+use Rattle.std.proofs.lemmas.Option.{same_Some, slice_get_within}
 use Rattle.std.specs.Cmp.Lexicographic.{nat_list_eq_equiv}
 use Rattle.std.proofs.lemmas.List.Folds.{list_any_at}
 use Rattle.std.specs.List.{list_any, find}
@@ -15,7 +15,7 @@ use Rattle.wb_metamodel.specs.Metamodel.{Metamodel, same_name, names_feature, nu
 use Rattle.wb_metamodel.specs.WellFormed.{AreOpposite}
 use Rattle.wb_metamodel.specs.Checks.{wrong_class, no_cycle, is_name_of, clashes, has_clash, no_clash, refers_to, unfit, is_mismatched, has_mismatch, wrong_feature, opposites_match, is_small, few}
 use Rattle.wb_metamodel.proofs.Paths.{below-known}
-use Rattle.wb_metamodel.proofs.Distinct.{none-bad, number-at, any-at}
+use Rattle.wb_metamodel.proofs.Distinct.{none-bad, number-at}
 
 class-wrong : (c : ℕ) → ◌≡◌ {A = Result ⊤ Place} (wrong_class c) (Ok tt) → ⊥
 class-wrong c h = cc

@@ -1,8 +1,7 @@
 -- What a look-up finds is one of the metamodel's.
-use Rattle.std.proofs.Common.{◌≡◌, ℕ, ◌<◌, List, length, Some, get_or, ◌∙◌}
+use Rattle.std.proofs.Common.{◌≡◌, ℕ, ◌<◌, List, length, Some, get_or}
 use Rattle.std.specs.Prelude.{All}
-use Rattle.std.specs.List.{position}
-use Rattle.std.proofs.lemmas.Option.{none-some, slice_get_within}
+use Rattle.std.proofs.lemmas.Option.{slice_get_within}
 use Rattle.wb_metamodel.specs.declared.classes.Class.{Class}
 use Rattle.wb_metamodel.specs.declared.classes.Enumeration.{Enumeration}
 use Rattle.wb_metamodel.specs.Metamodel.{Metamodel, same_name, class_named, enum_named, feature_named, features_of}

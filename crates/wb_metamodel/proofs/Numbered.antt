@@ -1,5 +1,5 @@
 -- The own features of each class, numbered over all classes.
-use Rattle.std.proofs.Common.{◌≡◌, ℕ, ◌+◌, ◌<◌, ◌≤◌, ◌^◌, List, [], ◌∷◌, ◌++◌, length, drop, get_or, Some, zero, suc, refl, sym, ap, ◌∙◌, append_assoc, arith}
+use Rattle.std.proofs.Common.{◌≡◌, ℕ, ◌+◌, ◌<◌, ◌^◌, List, [], ◌∷◌, ◌++◌, length, drop, get_or, Some, zero, suc, refl, sym, ap, ◌∙◌, append_assoc, arith}
 use Rattle.std.specs.List.{AllZip, slice_get, position}
 use Rattle.std.specs.Option.{option_map, option_and_then}
 use Rattle.std.proofs.lemmas.List.{drop_more}
@@ -13,7 +13,7 @@ use Rattle.wb_metamodel.specs.Names.{number_of}
 use Rattle.wb_metamodel.specs.Resolving.{numbered, own_feature}
 use Rattle.wb_metamodel.specs.Index.{HasOwn}
 use Rattle.wb_metamodel.proofs.Positions.{position-Some}
-use Rattle.wb_metamodel.proofs.Zips.{zip-length, zip-at, zip-push}
+use Rattle.wb_metamodel.proofs.Zips.{zip-length, zip-at}
 
 pub length-numbered : (first : ℕ) (parts : List ClassPart) → length (numbered first parts) ≡ length parts
 length-numbered first [] = refl

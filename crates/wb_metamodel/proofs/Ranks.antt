@@ -1,12 +1,12 @@
 -- Without a cycle fewer classes stand above a supertype than above the class, so the features of a class stand still.
-use Rattle.std.proofs.Common.{◌≡◌, ℕ, ◌+◌, ◌<◌, ◌≤◌, Bool, true, false, cond, ◌||◌, eqb, List, [], ◌∷◌, ◌++◌, length, zero, suc, refl, ap, ◌∙◌, subst, ⊎_elim, ◌⊎◌, arith}
+use Rattle.std.proofs.Common.{◌≡◌, ℕ, ◌+◌, ◌<◌, ◌≤◌, Bool, true, false, cond, eqb, List, [], ◌∷◌, ◌++◌, length, zero, suc, refl, ap, ◌∙◌, subst, ⊎_elim, arith}
 use Rattle.std.proofs.lemmas.Bool.{cases_Bool, false≢true, or_cases, or_left, or_right, eqb-true, eq-eqb, cond-true, cond-false}
 use Rattle.std.proofs.lemmas.List.Recursion.{is_count_by}
 use Rattle.std.proofs.lemmas.List.FromFn.{length-range_with_len}
 use Rattle.std.specs.List.{list_any, flat_map, count_by}
 use Rattle.wb_metamodel.specs.Metamodel.{Metamodel, numbers, supertypes_of, is_supertype, is_below, first_places, own_features, features_within, features_of}
 use Rattle.wb_metamodel.specs.Tables.{rank_of}
-use Rattle.wb_metamodel.proofs.Paths.{among_range, supertype-known, below-step, below-joined}
+use Rattle.wb_metamodel.proofs.Paths.{among_range, below-step, below-joined}
 
 unfoldable pub tally : {X : Type 0} → (X → Bool) → List X → ℕ
 tally p [] = 0

@@ -8,7 +8,7 @@ use Rattle.wb_json.specs.Form.{or_wrong}
 use Rattle.wb_json.specs.Json.{json_of}
 use Rattle.wb_metamodel.specs.declared.features.Feature.{Feature}
 use Rattle.wb_metamodel.specs.declared.features.Kind.{Kind}
-use Rattle.wb_metamodel.specs.declared.features.Kind.TheVariants.{Int, Text, Reference}
+use Rattle.wb_metamodel.specs.declared.features.Kind.TheVariants.{Reference}
 use Rattle.wb_metamodel.specs.declared.refusal.MetamodelCode.{MetamodelCode}
 use Rattle.wb_metamodel.specs.declared.refusal.MetamodelCode.TheVariants.{BadJson, BadShape, DuplicateName, UnknownName, SupertypeCycle, OppositeMismatch, TooMany}
 use Rattle.wb_metamodel.specs.declared.refusal.MetamodelRefusal.{MetamodelRefusal}

@@ -1,5 +1,5 @@
 -- What the names of a document name: its metamodel, or the first name that names nothing.
-use Rattle.std.specs.Prelude.{ℕ, ◌+◌, ◌++◌, Bool, false, if◌then◌else◌, List, [], ◌∷◌, length, map, position, Option, Some, None, option_map, option_and_then, slice_get, Result, Ok, codes}
+use Rattle.std.specs.Prelude.{ℕ, ◌+◌, false, if◌then◌else◌, List, [], ◌∷◌, length, map, position, Option, Some, None, option_map, option_and_then, slice_get, Result, Ok, codes}
 use Rattle.std.specs.List.{flat_map, enumerate_from}
 use Rattle.wb_json.specs.Place.{Place, at_member, at_index}
 use Rattle.wb_json.specs.Form.{◌>>=◌, in_turn, or_wrong}

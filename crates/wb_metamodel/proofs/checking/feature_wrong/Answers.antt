@@ -1,4 +1,4 @@
-use Rattle.std.proofs.Common.{◌≡◌, ◌<◌, ℕ, [], Some, Err, Result, eqb, length, take, get_or, sym, ap, ◌∙◌, subst, arith}
+use Rattle.std.proofs.Common.{◌≡◌, ℕ, [], Some, Err, Result, eqb, length, take, get_or, sym, ap, ◌∙◌, subst, arith}
 use Rattle.std.specs.Prelude.{⊤, codes}
 use Rattle.std.specs.List.{count_by, slice_get}
 use Rattle.std.specs.Option.{option_map_or}

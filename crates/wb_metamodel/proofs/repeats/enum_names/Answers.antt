@@ -1,4 +1,4 @@
-use Rattle.std.proofs.Common.{◌≡◌, ◌++◌, take, sym, ap, ◌∙◌, arith}
+use Rattle.std.proofs.Common.{◌++◌, take, sym, ap, ◌∙◌, arith}
 use Rattle.std.specs.Prelude.{codes}
 use Rattle.wb_json.specs.Place.{at_member, at_index}
 use Rattle.wb_metamodel.specs.declared.document.EnumPart.{EnumPart}

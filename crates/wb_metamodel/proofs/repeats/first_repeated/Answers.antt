@@ -1,4 +1,4 @@
-use Rattle.std.proofs.Common.{◌≡◌, [], length, subst, sym, ap, ◌∙◌, arith}
+use Rattle.std.proofs.Common.{[], length, subst, sym, ap, ◌∙◌, arith}
 use Rattle.std.specs.Option.{is_some}
 use Rattle.wb_metamodel.specs.Names.{number_of, Takes}
 use Rattle.wb_metamodel.specs.Checks.{repeats}

@@ -1,4 +1,4 @@
-use Rattle.std.proofs.Common.{◌≡◌, ℕ, ◌-◌, length, map, take}
+use Rattle.std.proofs.Common.{◌≡◌, ◌-◌, length, map, take}
 use Rattle.std.specs.List.{find, range_with_len}
 use Rattle.wb_metamodel.specs.Metamodel.{numbers}
 use Rattle.wb_metamodel.specs.Names.{Holds}

@@ -1,4 +1,4 @@
-use Rattle.std.proofs.Common.{◌≡◌, ◌+◌, ◌++◌, ◌∷◌, [], sym, ◌∙◌, subst, take, arith}
+use Rattle.std.proofs.Common.{◌+◌, sym, subst, take, arith}
 use Rattle.wb_metamodel.specs.declared.classes.Enumeration.{Enumeration}
 use Rattle.wb_metamodel.specs.Tables.{PlacesOf, LiteralPlaces}
 use Rattle.wb_metamodel.proofs.Zips.{zip_more}

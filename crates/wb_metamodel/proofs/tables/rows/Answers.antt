@@ -1,4 +1,4 @@
-use Rattle.std.proofs.Common.{◌≡◌, ◌+◌, take, sym, subst, arith}
+use Rattle.std.proofs.Common.{◌+◌, take, sym, subst, arith}
 use Rattle.std.specs.List.{AllZip}
 use Rattle.wb_metamodel.specs.Tables.{HasRow}
 use Rattle.wb_metamodel.proofs.Zips.{zip_more}

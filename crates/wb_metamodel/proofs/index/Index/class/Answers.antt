@@ -1,4 +1,4 @@
-use Rattle.std.proofs.Common.{◌≡◌, sym, ap, ◌∙◌}
+use Rattle.std.proofs.Common.{sym, ap, ◌∙◌}
 use Rattle.wb_metamodel.specs.Names.{number_of}
 use Rattle.wb_metamodel.proofs.Resolutions.{class-number-known}
 use Rattle.wb_metamodel.proofs.index.Index.class.Goals as goal

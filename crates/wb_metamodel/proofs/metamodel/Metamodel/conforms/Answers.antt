@@ -1,4 +1,4 @@
-use Rattle.std.proofs.Common.{◌≡◌, ◌<◌, length, get_or, subst, ap, ◌∙◌, sym, arith, ℕ, false}
+use Rattle.std.proofs.Common.{◌≡◌, ◌<◌, length, get_or, subst, ap, ◌∙◌, sym, arith, false}
 use Rattle.std.proofs.lemmas.Bool.{eq-eqb}
 use Rattle.wb_metamodel.specs.Metamodel as definition
 use Rattle.wb_metamodel.proofs.Paths.{conforms-path, path-conforms}

@@ -1,7 +1,6 @@
-use Rattle.std.proofs.Common.{◌≡◌, ◌<◌, Some, None, length, get_or, subst, sym, ap, ◌∙◌, arith}
+use Rattle.std.proofs.Common.{◌≡◌, length, get_or, subst, sym, ap, ◌∙◌, arith}
 use Rattle.std.proofs.lemmas.Option.{slice_get_within, get_or_from_slice_get}
 use Rattle.wb_metamodel.specs.Metamodel as definition
-use Rattle.wb_metamodel.specs.Tables.{entry}
 use Rattle.wb_metamodel.proofs.TableLemmas.{entry-row, entry-cell, feature_named-unknown}
 use Rattle.wb_metamodel.proofs.metamodel.Metamodel.feature_named.Goals as goal
 

@@ -1,4 +1,4 @@
-use Rattle.std.proofs.Common.{◌≡◌, ℕ, Bor, Option, Some, None, false, sym, true}
+use Rattle.std.proofs.Common.{◌≡◌, ℕ, Bor, Option, Some, None, false, sym}
 use Rattle.std.specs.Option.{is_some, option_copied}
 use Rattle.std.proofs.lemmas.Bool.{true≢false}
 use Rattle.wb_metamodel.proofs.NameLemmas.{inserted}

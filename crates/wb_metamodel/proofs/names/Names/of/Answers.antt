@@ -1,4 +1,4 @@
-use Rattle.std.proofs.Common.{◌≡◌, cond, Some, None, ℕ, take, ap, ◌∙◌, sym, arith}
+use Rattle.std.proofs.Common.{cond, Some, None, take, ap, ◌∙◌, sym, arith}
 use Rattle.std.specs.List.{position}
 use Rattle.std.specs.Option.{option_or}
 use Rattle.wb_metamodel.specs.Metamodel.{same_name}
