@@ -14,7 +14,9 @@ mod walk;
 
 pub use checked::{Checked, Origin};
 pub use checking::check;
-pub use laws::{known_in_a_larger_scope, known_names_are_not_wrong};
+pub use laws::{
+    known_in_a_larger_scope, known_names_are_not_wrong, printed_expressions_are_checked_alike,
+};
 pub use refusal::CheckRefusal;
 pub use services::{Callee, Iteration, Parameters, Service, service_named};
 

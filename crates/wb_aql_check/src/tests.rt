@@ -1,6 +1,6 @@
 use crate::{
     Callee, CheckRefusal, Checked, Origin, Parameters, Service, check, known_in_a_larger_scope,
-    known_names_are_not_wrong, service_named,
+    known_names_are_not_wrong, printed_expressions_are_checked_alike, service_named,
 };
 use std::alloc::{AllocError, Global};
 use std::process::Abort;
@@ -51,10 +51,13 @@ self ; let x = x in 1 => UnknownVariable x
 self ; let self = 1 in self => known
 self ; self.books.pages => known
 self ; self.publisher => UnknownFeature publisher
+self ; self.Book => UnknownFeature Book
 self ; y.publisher => UnknownVariable y
 self ; self.books->select(b | b.pages > 1)->size() => known
 self ; self.books->select(b | b.weight > 1) => UnknownFeature weight
 self ; self.books->select(b | true)->collect(c | b) => UnknownVariable b
+self ; b->select(b | b.pages > 1) => UnknownVariable b
+self ; self.books->select(b | b.weight > 1) = y => UnknownFeature weight
 self ; self.books.select(b | true) => UnknownService select
 self ; self->eContainer() => UnknownService eContainer
 self ; self.x(y) => UnknownService x
@@ -157,6 +160,7 @@ fn an_extent_needs_no_scope(rt: HostRuntime) {
     assert_eq!(rt; checked.scope().len(), 0);
     known_names_are_not_wrong();
     known_in_a_larger_scope();
+    printed_expressions_are_checked_alike();
 }
 
 #[test]

@@ -98,8 +98,8 @@ fn check_argument<'a>(
     ensures { Answers result (first_wrong_argument metamodel.now (names_of scope.now) (arguments_in (argument.now ∷ []))) }
 {
     match argument {
-        Argument::Lambda(name, body) => {
-            check_node(alloc, metamodel, &Scope::Inner(scope, name), body.get())
+        Argument::Lambda(variable, body) => {
+            check_node(alloc, metamodel, &Scope::Inner(scope, variable), body.get())
         }
         Argument::Type(owner, class) => check_class(alloc, metamodel, owner, class),
         Argument::Expression(value) => check_node(alloc, metamodel, scope, value.get()),
