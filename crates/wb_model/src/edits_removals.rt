@@ -1,9 +1,11 @@
 ghost use Rattle.std.specs.Prelude.{◌≡◌, ◌∷◌, IfOk};
+ghost use Rattle.std.specs.List.Sorted.{IsPermutation};
 ghost use Rattle.wb_model.specs.Cells.{tree};
 ghost use Rattle.wb_model.specs.Edits.{remove, Edited};
 ghost use Rattle.wb_model.specs.Valid.{IsValid};
 
 use crate::edits_checks::is_live;
+use crate::object_sets::ObjectSet;
 use crate::refusals::ModelRefusal;
 use crate::store::Store;
 use std::alloc::{AllocError, Global};
@@ -24,14 +26,14 @@ impl Store {
     }
 
     // An object and all that it contains.
-    fn with_content(&self, alloc: Global, o: ObjectId) -> Result<Vec<ObjectId>, AllocError>
+    fn with_content(&self, alloc: Global, o: ObjectId) -> Result<ObjectSet, AllocError>
         requires { IsValid self.now }
-        ensures { IfOk result (λ objects. objects.items ≡ o ∷ tree self.now o) }
+        ensures { IfOk result (λ objects. IsPermutation (o ∷ tree self.now o) objects) }
     {
         let tree = self.tree(alloc, o)?;
         let mut objects = Vec::new(alloc);
         objects.push(o)?;
         objects.extend_from_slice(tree.as_slice())?;
-        Ok(objects)
+        ObjectSet::new(objects)
     }
 }
