@@ -30,7 +30,7 @@ use Rattle.wb_model.specs.ValidTest.{holders, is_within}
 use Rattle.wb_model.proofs.Breaches.{slots_meet_kept}
 use Rattle.wb_model.proofs.Findings.{nothing_shown}
 use Rattle.wb_model.proofs.Found.{is_itself}
-use Rattle.wb_model.proofs.LinkLemmas.{container_place, live_at}
+use Rattle.wb_model.proofs.LinkLemmas.{container_place, live_at, at_most_one}
 use Rattle.wb_model.proofs.Maps.{kind-numbered}
 use Rattle.wb_model.proofs.Members.{In, In-all, In-map, map-In, all_In, any_In, find-In, flat_map-In, Contains-In}
 use Rattle.wb_model.proofs.Members.In.{here, there}
@@ -103,9 +103,6 @@ neither a b e f = λ i. option_or (e i) (f i)
 at_most_one : (n : ℕ) → ltb 1 n ≡ false → leb n 1 ≡ true
 at_most_one n h = grind (arith, nat_tests)
 
-one_at_most : (n : ℕ) → leb n 1 ≡ true → ltb 1 n ≡ false
-one_at_most n h = grind (arith, nat_tests)
-
 module _ (m : Contents) (rs : List Record) (kept : Kept m rs) where
   none_passes : (number : ℕ) (passes : ℕ → ℕ → Bool) → shown_by number (least m passes) ≡ None → (o c : ℕ) → In (o, c) (entries m.kinds) → passes o c ≡ false
   none_passes number passes e o c i = find_none (λ (e : ℕ × ℕ). passes e.0 e.1) (λ (e : ℕ × ℕ). e.0) (entries m.kinds) (nothing_shown number (least m passes) e) (o, c) i
@@ -168,7 +165,7 @@ module _ (m : Contents) (rs : List Record) (kept : Kept m rs) where
         (passed_by_none 6 _ (λ o c i. meets_all_slots Differ v.values_differ o))
         (passed_by_none 7 _ (λ o c i. meets_all_slots HeldBack v.opposites_agree o))))
         (neither _ _
-        (passed_by_none 8 _ (λ o c i. one_at_most _ (In-all (λ (e : ℕ × ℕ). leb (length (holders m e.0)) 1) (entries m.kinds) (o, c) ((contained_once-decided m).1 v.are_contained_once) i)))
+        (passed_by_none 8 _ (λ o c i. at_most_one _ (In-all (λ (e : ℕ × ℕ). leb (length (holders m e.0)) 1) (entries m.kinds) (o, c) ((contained_once-decided m).1 v.are_contained_once) i)))
         (neither _ _
         (passed_by_none 9 _ (λ o c i. false_from_ne_true _ (λ h. v.none_is_within_itself o ((is_within-decides m o o).0 h))))
         (ap (unless 10) ((roots-decided m).1 v.roots_are_uncontained)))))

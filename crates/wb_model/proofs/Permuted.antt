@@ -1,5 +1,5 @@
 -- What is only asked whether an object is in a list stays where the list is put in another order.
-use Rattle.std.proofs.Common.{◌≡◌, ℕ, Bool, not, ◌||◌, List, [], Option, eqb}
+use Rattle.std.proofs.Common.{◌≡◌, ℕ, not, ◌||◌, List, [], ◌∷◌, Ok, Some, None, cond, true, sym, ap, ◌∙◌, eqb}
 use Rattle.std.proofs.lemmas.List.Sorted.{list_any-IsPermutation}
 use Rattle.std.specs.Prelude.{filter}
 use Rattle.std.specs.FinMap.{entries, from_entries}
@@ -8,9 +8,11 @@ use Rattle.std.specs.Option.{option_or}
 use Rattle.wb_model.specs.declared.conditions.Condition.TheVariants.{OfClass, HasRoom}
 use Rattle.wb_model.specs.declared.scalars.Scalar.{Scalar}
 use Rattle.wb_model.specs.declared.scalars.Scalar.TheVariants.{Object}
-use Rattle.wb_model.specs.Broken.{Breach, shown_by, least, breaks, broken, broken_first, broken_number, broken_values, broken_containment}
+use Rattle.wb_model.specs.Broken.{shown_by, least, breaks, broken, broken_first, broken_number, broken_values, broken_containment}
+use Rattle.wb_model.specs.Cells.{tree}
 use Rattle.wb_model.specs.Contents.{Contents}
-use Rattle.wb_model.specs.Edits.{Link, relink, is_among, is_value_among, without}
+use Rattle.wb_model.specs.declared.refusals.ModelRefusal.TheVariants.{UnknownObject}
+use Rattle.wb_model.specs.Edits.{Link, relink, is_among, is_value_among, without, removed, unless, is_live, remove}
 use Rattle.wb_model.specs.Scalars.{same}
 use Rattle.wb_model.specs.Valid.{is_abstract}
 
@@ -38,3 +40,9 @@ module _ (xs ys : List ℕ) (permuted : IsPermutation xs ys) (m : Contents) wher
       (option_or (shown_by 3 (least m (λ o c. breaks m OfClass o)))
       (shown_by 4 (least m (λ o c. among o i || breaks m HasRoom o))))))
       (option_or (broken_values m) (broken_containment m))
+
+-- a live object is removed where these objects are deleted: the object and all that it contains, in any order
+pub removes : (m n : Contents) (o : ℕ) (objects dead : List ℕ) → is_live m o ≡ true → objects ≡ o ∷ tree m o → IsPermutation objects dead → n ≡ without dead m → remove m o ≡ Ok n
+removes m n o objects dead live all permuted is =
+    ap (λ b. unless (cond b None (Some UnknownObject)) (removed o m)) live
+    ∙ ap Ok (ap (λ os. without os m) (sym all) ∙ without-permuted objects dead permuted m ∙ sym is)

@@ -1,5 +1,4 @@
 ghost use Rattle.std.specs.Prelude.{◌≡◌, ◌∷◌, IfOk};
-ghost use Rattle.std.specs.List.Sorted.{IsPermutation};
 ghost use Rattle.wb_model.specs.Cells.{tree};
 ghost use Rattle.wb_model.specs.Edits.{remove, Edited};
 ghost use Rattle.wb_model.specs.Valid.{IsValid};
@@ -20,20 +19,21 @@ impl Store {
         if !is_live(self, o) {
             return Err(ModelRefusal::UnknownObject);
         }
-        let dead = self.with_content(alloc, o)?;
+        let objects = self.with_content(alloc, o)?;
+        let dead = ObjectSet::new(objects)?;
         self.without(alloc, &dead);
         Ok(())
     }
 
     // An object and all that it contains.
-    fn with_content(&self, alloc: Global, o: ObjectId) -> Result<ObjectSet, AllocError>
+    fn with_content(&self, alloc: Global, o: ObjectId) -> Result<Vec<ObjectId>, AllocError>
         requires { IsValid self.now }
-        ensures { IfOk result (λ objects. IsPermutation (o ∷ tree self.now o) objects) }
+        ensures { IfOk result (λ objects. objects.items ≡ o ∷ tree self.now o) }
     {
         let tree = self.tree(alloc, o)?;
         let mut objects = Vec::new(alloc);
         objects.push(o)?;
         objects.extend_from_slice(tree.as_slice())?;
-        ObjectSet::new(objects)
+        Ok(objects)
     }
 }
