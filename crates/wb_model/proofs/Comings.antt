@@ -12,23 +12,21 @@ use Rattle.wb_metamodel.specs.WellFormed.{WellFormed}
 use Rattle.wb_model.specs.declared.scalars.Scalar.{Scalar}
 use Rattle.wb_model.specs.declared.scalars.Scalar.TheVariants.{Int, Bool as Boolean, Text, Literal, Object}
 use Rattle.wb_model.specs.Contents.{Contents, slot, kind}
-use Rattle.wb_model.specs.Valid.{opposite, is_many, IsValid, is_of_feature, is_of_kind}
+use Rattle.wb_model.specs.Valid.{opposite, is_many, is_of_feature, is_of_kind}
 use Rattle.wb_model.specs.Edits.{Link, link, relink, other_end, both_ends, change, is_at, same_link, gives_way, unlink, emptied, stands, link_up}
 use Rattle.wb_model.specs.LinkSteps.{with_link, with_only, without_link, each_left, with_ends, is_given, first_object, gives_place}
 use Rattle.wb_model.proofs.Changed.{both-same}
 use Rattle.wb_model.proofs.Ends.{Opposed, Opposites, opposites, other_end-is, other_end-In, other_end-cases, In-other_end, In-both_ends, ends-this, ends-that, ends-cases, opposed-unique, opposed-back}
-use Rattle.wb_model.proofs.EditSteps.{relink-relink, relink-agree, relink-none, unlink-alone, unlink-both, emptied-both, same_link-is, same_link-itself, linked-alone, emptied-alone, way-both, clears, come-alone, come-both}
+use Rattle.wb_model.proofs.EditSteps.{relink-relink, relink-agree, unlink-alone, unlink-both, emptied-both, same_link-is, same_link-itself, linked-alone, emptied-alone, way-both, clears, come-alone, come-both}
 use Rattle.wb_model.proofs.LinkLemmas.{any_found, to_false}
 use Rattle.wb_model.proofs.Members.{In, any_In}
 use Rattle.wb_model.proofs.Members.In.{here, there}
-use Rattle.wb_model.proofs.Relinked.{values_at, is_at-link, is_at-itself, kind-relink}
-use Rattle.wb_model.proofs.Sound.{Stands, Sound, sound-from, absent, stands-In, In-stands}
+use Rattle.wb_model.proofs.Relinked.{values_at, is_at-link, is_at-itself, kind-relink, metamodel-relink, none-any}
+use Rattle.wb_model.proofs.Sound.{Stands, Sound, absent, stands-In, In-stands}
+use Rattle.wb_model.proofs.KeptLinks.{sound}
+use Rattle.wb_model.proofs.Relinks.{relink_none}
 
 -- ---- what a step leaves as it is
-
-pub metamodel-relink : (leaves : Link → Bool) (comes : List Link) (m : Contents) → (relink leaves comes m).metamodel ≡ m.metamodel
-unfolding relink
-metamodel-relink leaves comes m = refl
 
 pub metamodel-left : (ls : List Link) (m : Contents) → (each_left ls m).metamodel ≡ m.metamodel
 metamodel-left [] m = refl
@@ -37,10 +35,6 @@ metamodel-left (l ∷ ls) m = metamodel-left ls (without_link l m) ∙ metamodel
 pub left-append : (ls ks : List Link) (m : Contents) → each_left (ls ++ ks) m ≡ each_left ks (each_left ls m)
 left-append [] ks m = refl
 left-append (l ∷ ls) ks m = left-append ls ks (without_link l m)
-
-pub sound_valid : (m : Contents) → IsValid m → Sound m
-unfolding IsValid
-sound_valid m valid = sound-from m valid
 
 -- ---- links that leave
 
@@ -53,10 +47,6 @@ unlink_steps m well l =
     (other_end-cases m.metamodel l)
 
 -- ---- a link that comes, and then what leaves
-
-pub any_never : (ls : List Link) → list_any (λ k. false) ls ≡ false
-any_never [] = refl
-any_never (l ∷ ls) = any_never ls
 
 filter_keep : (b : Link → Bool) (ls : List Link) → ((j : Link) → In j ls → b j ≡ false) → filter (λ l. not (b l)) ls ≡ ls
 filter_keep b [] h = refl
@@ -71,7 +61,7 @@ come_then m b leaves l same keep =
     let own : (j : Link) → In j comes → b j ≡ false = λ j i. keep j (subst (In j) (append-nil (both_ends mm l)) i) in
     relink-relink (λ j. list_any (λ k. false) (both_ends mm j)) b comes [] m
     ∙ relink-agree (λ j. list_any (λ k. false) (both_ends mm j) || b j) (λ j. list_any leaves (both_ends mm j)) (filter (λ k. not (b k)) comes ++ []) comes m
-    (λ j st. ap (λ x. x || b j) (any_never (both_ends mm j)) ∙ sym (same j st))
+    (λ j st. ap (λ x. x || b j) (none-any (both_ends mm j)) ∙ sym (same j st))
     (λ o f. ap (values_at o f) (append-nil (filter (λ k. not (b k)) comes) ∙ filter_keep b comes own))
 
 -- a link that comes and leaves again
@@ -81,7 +71,7 @@ put_drop m l fresh =
     ∙ relink-agree (λ j. false || same_link l j) (λ j. false) (filter (λ k. not (same_link l k)) (l ∷ []) ++ []) [] m
     (λ j st. to_false (same_link l j) (λ t. absent m l fresh (subst (Stands m) (sym (same_link-is l j t)) st)))
     (λ o f. ap (λ t. values_at o f (cond (not t) (l ∷ []) [] ++ [])) (same_link-itself l))
-    ∙ relink-none m
+    ∙ relink_none m
 
 pub put_one : (m : Contents) (l : Link) → other_end m.metamodel l ≡ [] → with_link l m ≡ with_ends l m
 put_one m l alone = sym (come-alone m l alone)

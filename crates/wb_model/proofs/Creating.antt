@@ -1,6 +1,6 @@
 -- A new object as the code makes it: its place is taken first, and then the object comes.
-use Rattle.std.proofs.Common.{◌≡◌, ℕ, ◌<◌, ◌^◌, Bool, true, false, not, ◌&&◌, List, [], ◌∷◌, ◌++◌, length, Option, Some, None, refl, sym, ap, subst, ◌∙◌, cond, ltb, leb, eqb, arith, suc, append-nil}
-use Rattle.std.proofs.lemmas.Bool.{and_parts, and_from, false≢true, eqb-true}
+use Rattle.std.proofs.Common.{◌≡◌, ℕ, ◌<◌, ◌^◌, true, false, not, ◌&&◌, List, [], ◌∷◌, ◌++◌, length, Option, Some, None, refl, sym, ap, subst, ◌∙◌, cond, ltb, leb, eqb, arith, suc, append-nil}
+use Rattle.std.proofs.lemmas.Bool.{and_parts, and_from, false≢true, eqb-true, lt-ltb, ltb-true, eq-eqb}
 use Rattle.std.proofs.lemmas.Bool.Decides.{nat_tests}
 use Rattle.std.proofs.lemmas.Option.{slice_get_within}
 use Rattle.std.specs.Prelude.{filter, IsSome}
@@ -16,30 +16,20 @@ use Rattle.wb_model.specs.Contents.{Contents, kind, slot, is_containment, contai
 use Rattle.wb_model.specs.Places.{rises}
 use Rattle.wb_model.specs.Records.{values_in, is_known_slot, feature_of}
 use Rattle.wb_model.specs.Valid.{IsValid, opposite}
-use Rattle.wb_model.specs.Edits.{Link, link, relink, back, both_ends, other_end, with_object, created, stands, without_root, is_at}
+use Rattle.wb_model.specs.Edits.{Link, link, back, both_ends, other_end, with_object, created, stands, without_root, is_at}
 use Rattle.wb_model.specs.LinkSteps.{with_link, with_root, Grows, back_slots}
-use Rattle.wb_model.proofs.Comings.{metamodel-relink, sound_valid, any_never}
 use Rattle.wb_model.proofs.Ends.{opposites}
 use Rattle.wb_model.proofs.LinkLemmas.{to_false}
 use Rattle.wb_model.proofs.Live.{contained-live, kind-some}
 use Rattle.wb_model.proofs.Members.{In, any_In}
 use Rattle.wb_model.proofs.Members.In.{here, there}
-use Rattle.wb_model.proofs.Moving.{housed_valid}
-use Rattle.wb_model.proofs.Relinked.{values_at, slot-relink, slot-change, same_contents}
-use Rattle.wb_model.proofs.Relinks.{filter_none, same_test}
+use Rattle.wb_model.proofs.Relinked.{values_at, slot-relink, slot-change, same_contents, next-relink, roots-relink, kinds-relink, metamodel-relink, none-any}
+use Rattle.wb_model.proofs.Relinks.{filter_none, same_test, eqb_sym}
 use Rattle.wb_model.proofs.Sound.{contains-from, stands-In}
-
-under : (a b : ℕ) → ltb a b ≡ true → a < b
-under a b h = grind (arith, nat_tests)
-
-eqb_itself : (a b : ℕ) → a ≡ b → eqb a b ≡ true
-eqb_itself a b h = grind (arith, nat_tests)
+use Rattle.wb_model.proofs.KeptLinks.{sound, housed}
 
 eqb_apart : (a b : ℕ) → a < b → eqb a b ≡ false
 eqb_apart a b h = grind (arith, nat_tests)
-
-eqb_sym : (a b : ℕ) → eqb a b ≡ eqb b a
-eqb_sym a b = grind (arith, nat_tests)
 
 pub fits_next : (n : ℕ) → leb (2 ^ 32) (suc n) ≡ false → suc n < 2 ^ 32
 fits_next n h = grind (arith, nat_tests)
@@ -48,22 +38,10 @@ fits_next n h = grind (arith, nat_tests)
 pub live_below : (m : Contents) → IsValid m → (o : ℕ) → IsSome (kind m o) → o < m.next
 live_below m valid o live =
     let c = kind-some m o live in
-    under o m.next (and_parts (ltb 0 o) (ltb o m.next) ((sound_valid m valid).numbers o c.0 c.1)).1
+    ltb-true o m.next (and_parts (ltb 0 o) (ltb o m.next) ((sound m valid).numbers o c.0 c.1)).1
 
 pub live_after : (m n : Contents) → IsValid m → ((o : ℕ) → kind n o ≡ kind m o) → n.next ≡ m.next → (o : ℕ) → IsSome (kind n o) → o < n.next
 live_after m n valid kinds next o live = subst (λ k. o < k) (sym next) (live_below m valid o (subst IsSome (kinds o) live))
-
-pub next-relink : (leaves : Link → Bool) (comes : List Link) (m : Contents) → (relink leaves comes m).next ≡ m.next
-unfolding relink
-next-relink leaves comes m = refl
-
-roots-relink : (leaves : Link → Bool) (comes : List Link) (m : Contents) → (relink leaves comes m).roots ≡ m.roots
-unfolding relink
-roots-relink leaves comes m = refl
-
-kinds-relink : (leaves : Link → Bool) (comes : List Link) (m : Contents) → (relink leaves comes m).kinds ≡ m.kinds
-unfolding relink
-kinds-relink leaves comes m = refl
 
 pub kind_linked : (m n : Contents) (l : Link) → n ≡ with_link l m → (o : ℕ) → kind n o ≡ kind m o
 kind_linked m n l e o = ap (λ (m : Contents). kind m o) e ∙ ap (λ ks. get ks o) (kinds-relink _ _ m)
@@ -78,7 +56,7 @@ module _ (m : Contents) (valid : IsValid m) where
       elim (slot m o f) as (λ vs. slot m o f ≡ vs → vs ≡ []) [
         | [] ↦ λ h. refl
         | v ∷ vs ↦ λ h.
-            let of_class = (sound_valid m valid).of_class (link o f v) (subst (In v) (sym h) here) in
+            let of_class = (sound m valid).of_class (link o f v) (subst (In v) (sym h) here) in
             absurd (not_below m.next (subst (λ o. o < m.next) e (live_below m valid o (live_of (kind m o) of_class))))
       ] refl
     where
@@ -91,17 +69,17 @@ module _ (m : Contents) (valid : IsValid m) where
   next_stands_nowhere p f o e c =
       to_false (stands m (link p f (Object o)))
       (λ t.
-      let live = contained-live m (sound_valid m valid) p f o (contains-from m p f o c (stands-In m (link p f (Object o)) t)) in
+      let live = contained-live m (sound m valid) p f o (contains-from m p f o c (stands-In m (link p f (Object o)) t)) in
       not_below m.next (subst (λ o. o < m.next) e (live_below m valid o live)))
 
   keeps : (os : List ℕ) (n : ℕ) → ((o : ℕ) → In o os → o < n) → filter (λ root. not (eqb root n)) (os ++ n ∷ []) ≡ os
-  keeps [] n h = ap (λ b. cond (not b) (n ∷ []) []) (eqb_itself n n refl)
+  keeps [] n h = ap (λ b. cond (not b) (n ∷ []) []) (eq-eqb n n refl)
   keeps (o ∷ os) n h = ap (λ b. cond (not b) (o ∷ filter (λ root. not (eqb root n)) (os ++ n ∷ [])) (filter (λ root. not (eqb root n)) (os ++ n ∷ []))) (eqb_apart o n (h o here)) ∙ ap (λ ks. o ∷ ks) (keeps os n (λ p i. h p (there i)))
 
   -- the place among the roots is given back
   pub root_undone : (o : ℕ) → o ≡ m.next → without_root o (with_root o m) ≡ m
   root_undone o e =
-      let roots = keeps m.roots o (λ q i. subst (λ n. q < n) (sym e) (live_below m valid q ((housed_valid m valid).roots.live q (any_In (λ root. eqb root q) m.roots q i (eqb_itself q q refl))))) in
+      let roots = keeps m.roots o (λ q i. subst (λ n. q < n) (sym e) (live_below m valid q ((housed m valid).roots.live q (any_In (λ root. eqb root q) m.roots q i (eq-eqb q q refl))))) in
       λ i. record { metamodel = m.metamodel; next = m.next; kinds = m.kinds; slots = m.slots; roots = roots i }
 
   none_at : (q h : ℕ) → cond (eqb q m.next) [] (slot m q h) ≡ slot m q h
@@ -163,7 +141,7 @@ module _ (m : Contents) (valid : IsValid m) where
     with_way class q h =
         slot-change (λ k. false) (l ∷ []) (with_object class m.roots m) q h
         ∙ ap (λ vs. vs ++ values_at q h (l ∷ (other_end m.metamodel l ++ [])))
-        (same_test (λ v. not (list_any (λ k. false) (both_ends m.metamodel (link q h v)))) (λ v. true) (λ v. ap not (any_never (both_ends m.metamodel (link q h v)))) (slot m q h) ∙ filter_none (slot m q h))
+        (same_test (λ v. not (list_any (λ k. false) (both_ends m.metamodel (link q h v)))) (λ v. true) (λ v. ap not (none-any (both_ends m.metamodel (link q h v)))) (slot m q h) ∙ filter_none (slot m q h))
 
     linked_slot : (q h : ℕ) → slot (with_link l m) q h ≡ slot m q h ++ values_at q h (l ∷ [])
     linked_slot q h = slot-relink (λ k. false) (l ∷ []) m q h ∙ ap (λ vs. vs ++ values_at q h (l ∷ [])) (filter_none (slot m q h))
@@ -189,12 +167,9 @@ module _ (m : Contents) (valid : IsValid m) where
 pub back_rise : (metamodel : Metamodel) (f p : ℕ) → rises feature_of (back_slots metamodel f p) ≡ true
 back_rise metamodel f p = elim (opposite metamodel f) as (λ r. rises feature_of (option_map_or (λ g. record { feature = g; values = Object p ∷ [] } ∷ []) r []) ≡ true) [ None ↦ refl | Some g ↦ refl ]
 
-lower : (a b : ℕ) → a < b → ltb a b ≡ true
-lower a b h = grind (arith, nat_tests)
-
 pub back_known : (metamodel : Metamodel) → WellFormed metamodel → (f p : ℕ) → list_all (is_known_slot metamodel) (back_slots metamodel f p) ≡ true
 back_known metamodel well f p =
     elim (opposite metamodel f) as (λ r. opposite metamodel f ≡ r → list_all (is_known_slot metamodel) (option_map_or (λ g. record { feature = g; values = Object p ∷ [] } ∷ []) r []) ≡ true) [
       | None ↦ λ e. refl
-      | Some g ↦ λ e. let pair = opposites metamodel well f g e in and_from _ _ (lower g (length metamodel.features) (slice_get_within metamodel.features g pair.other pair.is_other)) refl
+      | Some g ↦ λ e. let pair = opposites metamodel well f g e in and_from _ _ (lt-ltb g (length metamodel.features) (slice_get_within metamodel.features g pair.other pair.is_other)) refl
     ] refl

@@ -16,7 +16,6 @@ use Rattle.wb_model.specs.Cells.{holder}
 use Rattle.wb_model.specs.Valid.{is_many, IsValid, AreContainedOnce}
 use Rattle.wb_model.specs.Edits.{Link, link, both_ends, change, is_at, same_link, gives_way, leads_to, stands, link_up, unlink, emptied, moved, created, with_object, without_root, refusal_of_link, refusal_of_take, refusal_of_unset, refusal_of_move, refusal_of_create, set, add, take_out, unset, move_to, create}
 use Rattle.wb_model.proofs.Changed.{alone-ends, In-values_at}
-use Rattle.wb_model.proofs.EditSteps.{none-any}
 use Rattle.wb_model.proofs.Ends.{opposite-apart, containment-one, In-both_ends, ends-this, ends-cases}
 use Rattle.wb_model.proofs.Filtered.{In-cons, filter-none, filter-all, filter-same}
 use Rattle.wb_model.proofs.KeptCreated.{kind-new, may-place, is_placed, kept_create}
@@ -27,7 +26,7 @@ use Rattle.wb_model.proofs.Live.{contained-live}
 use Rattle.wb_model.proofs.Members.{In}
 use Rattle.wb_model.proofs.Members.In.{here}
 use Rattle.wb_model.proofs.MoveSteps.{holder-some, holder-none}
-use Rattle.wb_model.proofs.Relinked.{values_at, is_at-link, is_at-itself, slot-relink, kind-relink}
+use Rattle.wb_model.proofs.Relinked.{values_at, is_at-link, is_at-itself, slot-relink, kind-relink, none-any}
 use Rattle.wb_model.proofs.Sound.{stands-In, absent, contains-from, Sound}
 
 -- ---- the value that comes

@@ -17,7 +17,7 @@ use Rattle.wb_model.specs.EditLaws.{IsEdited, AreEdited, KeepsOrder, NumbersAreF
 use Rattle.wb_model.specs.EditLaws.IsEdited.{by_set, by_add, by_take, by_unset, by_move, by_remove, by_create}
 use Rattle.wb_model.specs.EditLaws.AreEdited.{by_none, by_more}
 use Rattle.wb_model.proofs.Changed.{IsAlone, alone-ends, both-same, relink-Stands}
-use Rattle.wb_model.proofs.EditSteps.{relink-agree, relink-none, same_link-is}
+use Rattle.wb_model.proofs.EditSteps.{relink-agree, same_link-is}
 use Rattle.wb_model.proofs.Ends.{ends-cases, opposite-back}
 use Rattle.wb_model.proofs.FewerRoots.{among-filter}
 use Rattle.wb_model.proofs.Filtered.{In-cons, filter-all}
@@ -29,9 +29,10 @@ use Rattle.wb_model.proofs.KeptRemoved.{kept_remove, kind-without, kind-stays, s
 use Rattle.wb_model.proofs.LinkLemmas.{to_false}
 use Rattle.wb_model.proofs.Members.{In}
 use Rattle.wb_model.proofs.Members.In.{here, there}
-use Rattle.wb_model.proofs.Relinked.{values_at, is_at-link, slot-relink}
+use Rattle.wb_model.proofs.Relinked.{values_at, is_at-link, slot-relink, metamodel-relink}
 use Rattle.wb_model.proofs.Sound.{Stands, stands-In, In-stands, absent, Sound}
 use Rattle.wb_model.proofs.TreesWithin.{tree-decides, tree-within, within-tree, among-In, In-among}
+use Rattle.wb_model.proofs.Relinks.{relink_none}
 
 -- ---- validity
 
@@ -49,10 +50,6 @@ kept m n well v (by_create class place h) = kept_create m n class place well v h
 same_metamodel-if : (b : Bool) (m n : Contents) → n.metamodel ≡ m.metamodel → (cond b m n).metamodel ≡ m.metamodel
 same_metamodel-if true m n e = refl
 same_metamodel-if false m n e = e
-
-metamodel-relink : (leaves : Link → Bool) (comes : List Link) (m : Contents) → (relink leaves comes m).metamodel ≡ m.metamodel
-unfolding relink
-metamodel-relink leaves comes m = refl
 
 module _ (m : Contents) where
   metamodel-change : (leaves : Link → Bool) (comes : List Link) → (change leaves comes m).metamodel ≡ m.metamodel
@@ -300,7 +297,7 @@ module _ (m : Contents) (s : Sound m) where
       (λ w. absent m l none (subst (Stands m) (sym (same_link-is l w.0 w.2)) (s.agree k w.0 i w.1)))
       (ends-cases m.metamodel (same_link l) k t)))
       (λ o f. refl)
-      ∙ relink-none m
+      ∙ relink_none m
 
   emptied-same : (o f : ℕ) → slot m o f ≡ [] → emptied o f m ≡ m
   emptied-same o f none =
@@ -311,7 +308,7 @@ module _ (m : Contents) (s : Sound m) where
       relink-agree (λ k. list_any (is_at o f) (both_ends m.metamodel k)) (λ k. false) [] [] m
       (λ k i. to_false _ (λ t. ⊎_elim (λ e. nothing k i e) (λ w. nothing w.0 (s.agree k w.0 i w.1) w.2) (ends-cases m.metamodel (is_at o f) k t)))
       (λ p g. refl)
-      ∙ relink-none m
+      ∙ relink_none m
 
 module _ (m n : Contents) where
   linked-same : (l : Link) → stands m l ≡ true → link_up l m ≡ m

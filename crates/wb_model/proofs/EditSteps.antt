@@ -1,5 +1,5 @@
 -- Changes of both ends as steps, each of which changes one slot.
-use Rattle.std.proofs.Common.{◌≡◌, ℕ, Bool, true, false, not, ◌&&◌, ◌||◌, List, [], ◌∷◌, ◌++◌, Some, None, refl, sym, ap, subst, ◌∙◌, cond, append_assoc, append-nil, ◌⊎◌, ⊎_elim}
+use Rattle.std.proofs.Common.{◌≡◌, ℕ, Bool, true, false, not, ◌&&◌, ◌||◌, List, [], ◌∷◌, ◌++◌, Some, None, refl, sym, ap, subst, ◌∙◌, cond, append_assoc, ◌⊎◌, ⊎_elim}
 use Rattle.std.proofs.lemmas.Bool.{and_parts, and_from, or_left, or_right, or_cases}
 use Rattle.std.proofs.lemmas.Option.{none-some}
 use Rattle.std.proofs.lemmas.List.Elements.{filter-append}
@@ -16,12 +16,13 @@ use Rattle.wb_model.specs.Edits.{Link, link, relink, other_end, both_ends, chang
 use Rattle.wb_model.specs.LinkSteps.{each_left}
 use Rattle.wb_model.proofs.Changed.{both-same}
 use Rattle.wb_model.proofs.Ends.{Opposed, other_end-is, other_end-In, In-other_end, In-both_ends, ends-this, ends-that, ends-cases, opposed-unique, opposed-back}
-use Rattle.wb_model.proofs.Filtered.{filter-all, filter-same, filter-twice}
+use Rattle.wb_model.proofs.Filtered.{filter-same, filter-twice}
 use Rattle.wb_model.proofs.LinkLemmas.{any_found}
 use Rattle.wb_model.proofs.Members.{In, any_In, In-flat_map, flat_map-In}
 use Rattle.wb_model.proofs.Members.In.{here, there}
-use Rattle.wb_model.proofs.Relinked.{values_at, values_at-append, values_at-filter, is_at-link, is_at-itself, slot-relink, same_contents}
+use Rattle.wb_model.proofs.Relinked.{values_at, values_at-append, values_at-filter, is_at-link, is_at-itself, slot-relink, same_contents, none-any}
 use Rattle.wb_model.proofs.Sound.{Stands, Sound}
+use Rattle.wb_model.proofs.Relinks.{relink_none}
 
 -- ---- relinks of relinks
 
@@ -53,12 +54,6 @@ relink-agree a b ls ks m leave come =
     ∙ sym (slot-relink b ks m o f))
 
 -- nothing leaves, and nothing comes
-pub relink-none : (m : Contents) → relink (λ l. false) [] m ≡ m
-unfolding relink
-relink-none m =
-    same_contents (relink (λ l. false) [] m) m refl refl refl (λ o. refl)
-    (λ o f. slot-relink (λ l. false) [] m o f ∙ append-nil _ ∙ filter-all (λ v. true) (slot m o f) (λ v i. refl))
-
 -- ---- one link leaves
 
 pub same_link-is : (l k : Link) → same_link l k ≡ true → l ≡ k
@@ -192,7 +187,7 @@ cleared-relink : (l : Link) (m : Contents) → cleared l m ≡ relink (clears m.
 unfolding clears
 cleared-relink l m =
     elim (is_many m.metamodel l.feature) as (λ b. cond b m (emptied l.object l.feature m) ≡ relink (λ j. not b && list_any (is_at l.object l.feature) (both_ends m.metamodel j)) [] m) [
-      | true ↦ sym (relink-none m)
+      | true ↦ sym (relink_none m)
       | false ↦ refl
     ]
 
@@ -268,10 +263,6 @@ module _ (m : Contents) (l : Link) where
       ∙ ap (λ n. relink none (k ∷ []) (relink none (l ∷ []) n)) (sym (relink-relink first second [] [] m))
       ∙ ap (λ n. relink none (k ∷ []) (relink none (l ∷ []) n)) (sym (cleared-relink k (relink first [] m)))
       ∙ ap (λ n. relink none (k ∷ []) (relink none (l ∷ []) (cleared k n))) (sym (cleared-relink l m))
-
-pub none-any : (ls : List Link) → list_any (λ k. false) ls ≡ false
-none-any [] = refl
-none-any (l ∷ ls) = none-any ls
 
 -- a link comes to a slot that has room, and its other end
 pub come-alone : (m : Contents) (l : Link) → other_end m.metamodel l ≡ [] → change (λ j. false) (l ∷ []) m ≡ relink (λ j. false) (l ∷ []) m

@@ -37,10 +37,10 @@ module _ {A : Type 0} (number : A → ℕ) where
   pub rises-sorted : (xs : List A) → rises number xs ≡ true → IsSortedBy (λ a b. is_lt (nat_cmp (number a) (number b))) xs
   rises-sorted xs h k d l m = not_less _ _ (rises-below xs k (k + 1) d h (omega arith) m)
 
-  never_less : (a b : ℕ) → nat_cmp a b ≡ Ordering.Less → a ≢ b
+  pub never_less : (a b : ℕ) → nat_cmp a b ≡ Ordering.Less → a ≢ b
   never_less a b e f = absurd (grind (arith, nat_tests))
 
-  never_greater : (a b : ℕ) → nat_cmp a b ≡ Ordering.Greater → a ≢ b
+  pub never_greater : (a b : ℕ) → nat_cmp a b ≡ Ordering.Greater → a ≢ b
   never_greater a b e f = absurd (grind (arith, nat_tests))
 
   pub place_found : (xs : List A) (n : ℕ) (r : Result ℕ ℕ) → rises number xs ≡ true → IsSearchInRange r (length xs) → IsBinarySearchResult (λ y. nat_cmp (number y) n) xs r → IsPlaceOf number xs n (result_ok r)

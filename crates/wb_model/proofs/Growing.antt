@@ -1,6 +1,6 @@
 -- One more object at the end of the list in which objects are kept.
 use Rattle.std.proofs.Common.{◌≡◌, ◌≢◌, ℕ, ◌<◌, Bool, true, false, ◌&&◌, List, [], ◌∷◌, ◌++◌, length, map, Option, Some, None, refl, sym, ap, subst, ◌∙◌, cond, ltb, eqb, arith, suc}
-use Rattle.std.proofs.lemmas.Bool.{and_parts, and_from, false≢true, eqb-true}
+use Rattle.std.proofs.lemmas.Bool.{and_parts, and_from, false≢true, eqb-true, lt-ltb}
 use Rattle.std.proofs.lemmas.Bool.Decides.{nat_tests}
 use Rattle.std.proofs.lemmas.Cmp.{nat_cmp_total}
 use Rattle.std.proofs.lemmas.List.{map-append}
@@ -18,9 +18,6 @@ use Rattle.wb_model.specs.Records.{id_of, feature_of, values_in, is_known, is_kn
 use Rattle.wb_model.specs.LinkSteps.{Grows}
 use Rattle.wb_model.proofs.Found.{is_itself}
 use Rattle.wb_model.proofs.Maps.{find-kinds, kind-numbered, slot-numbered}
-
-below : (a b : ℕ) → a < b → ltb a b ≡ true
-below a b h = grind (arith, nat_tests)
 
 not_same : (a b : ℕ) → ltb b a ≡ true → eqb a b ≡ false
 not_same a b h = grind (arith, nat_tests)
@@ -72,13 +69,13 @@ module _ (metamodel : Metamodel) (next : ℕ) (records : List Record) (roots : L
   newest = record { id = next; class = class; slots = slots }
 
   all_below : list_all (λ (r : Record). ltb r.id next) records ≡ true
-  all_below = has_number id_of records (λ n. ltb n next) (λ n s. below n next (fresh n (subst IsSome (sym (kind-numbered metamodel next records roots n)) (some_class (numbered id_of n records) s))))
+  all_below = has_number id_of records (λ n. ltb n next) (λ n s. lt-ltb n next (fresh n (subst IsSome (sym (kind-numbered metamodel next records roots n)) (some_class (numbered id_of n records) s))))
 
   pub grown_plain : class < length metamodel.classes → list_all (is_known_slot metamodel) slots ≡ true → rises feature_of slots ≡ true → IsPlain metamodel (records ++ newest ∷ [])
   grown_plain c k r = record {
     objects_rise = rises_push id_of records newest plain.objects_rise all_below;
     slots_rise = all_push (λ (r : Record). rises feature_of r.slots) records newest plain.slots_rise r;
-    known = all_push (is_known metamodel) records newest plain.known (and_from _ _ (below _ _ c) k);
+    known = all_push (is_known metamodel) records newest plain.known (and_from _ _ (lt-ltb _ _ c) k);
   }
 
   none_yet : kind (contents_of metamodel next records roots) next ≡ None

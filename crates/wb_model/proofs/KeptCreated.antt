@@ -1,13 +1,11 @@
 -- A new object keeps a model valid.
 use Rattle.std.proofs.Common.{◌≡◌, ◌≢◌, ℕ, ◌+◌, ◌<◌, ◌≤◌, ◌^◌, suc, Bool, true, false, not, ◌&&◌, List, [], ◌∷◌, ◌++◌, length, Some, None, refl, sym, ap, subst, ◌∙◌, cond, eqb, ltb, leb, arith, ◌⊎◌, inl, inr, ⊎_elim, append-nil}
 use Rattle.std.proofs.lemmas.Bool.{and_parts, and_from, false≢true, not-false, not-true, not_from_false, leb-false, eqb-true, eq-eqb, ne_eqb, lt-ltb, or_left, or_right, or_cases, ltb-true}
-use Rattle.std.proofs.lemmas.Bool.Decides.{nat_tests}
 use Rattle.std.proofs.lemmas.Cmp.{nat_cmp_total}
 use Rattle.std.proofs.lemmas.Option.{same_Some}
 use Rattle.std.proofs.lemmas.List.Folds.{list_any-append}
 use Rattle.std.specs.Prelude.{IsSome, Ok}
 use Rattle.std.specs.Option.{option_map_or}
-use Rattle.std.specs.Ordering.{nat_cmp, eq_by_cmp}
 use Rattle.std.specs.List.{list_any, flat_map}
 use Rattle.std.specs.FinMap.{len, get-insert, len-insert, contains_key}
 use Rattle.wb_metamodel.specs.declared.features.Feature.{Feature}
@@ -37,6 +35,7 @@ use Rattle.wb_model.proofs.Members.In.{here}
 use Rattle.wb_model.proofs.Rehoused.{IsRehoused, housed-rehoused, within-first}
 use Rattle.wb_model.proofs.Relinked.{kind-relink}
 use Rattle.wb_model.proofs.Sound.{contains-parts, contains-from, Sound, Housed}
+use Rattle.wb_model.proofs.Maps.{tied}
 
 -- ---- what an accepted edit says
 
@@ -68,9 +67,6 @@ may-place m class p f h =
     (record { live = not-false _ a.0; sort = not-false _ b.0; space = c.0 }, may-create m class c.1)
 
 -- ---- one more object
-
-tied : (a b : ℕ) → eq_by_cmp nat_cmp a b ≡ eqb a b
-tied a b = grind (arith, nat_tests)
 
 module _ (m : Contents) (class : ℕ) (roots : List ℕ) where
   abbrev grown : Contents

@@ -19,7 +19,7 @@ use Rattle.wb_model.proofs.Filtered.{filter-few, filter-none}
 use Rattle.wb_model.proofs.LinkLemmas.{any_found, to_false}
 use Rattle.wb_model.proofs.Members.{In, any_In}
 use Rattle.wb_model.proofs.Members.In.{here, there}
-use Rattle.wb_model.proofs.Relinked.{is_at-link, is_at-itself, kind-relink}
+use Rattle.wb_model.proofs.Relinked.{is_at-link, is_at-itself, kind-relink, roots-relink}
 use Rattle.wb_model.proofs.Sound.{absent, Sound, Housed, sound-from, housed-from, valid-from}
 
 -- ---- accepted edits
@@ -83,16 +83,12 @@ unfolding IsValid
 valid m s h = valid-from m s h
 
 -- a change keeps the roots
-same-roots : (leaves : Link → Bool) (comes : List Link) (m : Contents) → (relink leaves comes m).roots ≡ m.roots
-unfolding relink
-same-roots leaves comes m = refl
-
 module _ (m : Contents) (well : WellFormed m.metamodel) (leaves : Link → Bool) (comes : List Link) where
   plain-housed : ((l : Link) → leaves l ≡ true → is_plain m.metamodel l.feature ≡ true) → ((l : Link) → In l comes → is_plain m.metamodel l.feature ≡ true) → Housed m → Housed (change leaves comes m)
   plain-housed plain_leaves plain_comes h =
       let test : Link → Bool = λ l. list_any leaves (both_ends m.metamodel l) in
       let come : List Link = flat_map (both_ends m.metamodel) comes in
-      housed-same m (relink test come m) (contains-plain m well leaves comes plain_leaves plain_comes) (kind-relink test come m) (same-roots test come m) h
+      housed-same m (relink test come m) (contains-plain m well leaves comes plain_leaves plain_comes) (kind-relink test come m) (roots-relink test come m) h
 
 -- plain links leave
 plain_left : (m : Contents) → WellFormed m.metamodel → IsValid m → (leaves : Link → Bool) → ((l : Link) → leaves l ≡ true → is_plain m.metamodel l.feature ≡ true) → IsValid (change leaves [] m)

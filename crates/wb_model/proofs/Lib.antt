@@ -38,6 +38,8 @@ pub mod TreesWithin
 pub mod Trees
 pub mod ValidSlots
 pub mod ValidTest
+pub mod ObjectSets
+pub mod Permuted
 pub mod Placed
 pub mod SlotLemmas
 pub mod RecordLemmas

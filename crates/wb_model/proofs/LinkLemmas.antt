@@ -75,7 +75,7 @@ more_than_one n h = elim (leb n 1) as (λ b. leb n 1 ≡ b → ltb 1 n ≡ true)
   | false ↦ λ e. grind (arith, nat_tests)
 ] refl
 
-at_most_one : (n : ℕ) → leb n 1 ≡ true → ltb 1 n ≡ false
+pub at_most_one : (n : ℕ) → leb n 1 ≡ true → ltb 1 n ≡ false
 at_most_one n h = grind (arith, nat_tests)
 
 -- ---- the links of one value

@@ -8,6 +8,7 @@ use Rattle.std.specs.Ordering.{nat_cmp}
 use Rattle.std.specs.Prelude.{filter, IsSome}
 use Rattle.std.specs.Option.{option_map, option_or}
 use Rattle.std.specs.List.{find, flat_map, list_all, list_any}
+use Rattle.std.specs.List.Sorted.{IsPermutation}
 use Rattle.std.specs.FinMap.{len, entries, from_entries, contains_key, get-entries, len-empty, len-insert, nat_cmp-IsAntisymmetric}
 use Rattle.wb_metamodel.specs.Metamodel.{Metamodel}
 use Rattle.wb_model.specs.declared.conditions.Condition.{Condition}
@@ -19,7 +20,7 @@ use Rattle.wb_model.specs.declared.records.Record.{Record}
 use Rattle.wb_model.specs.Broken.{Breach, shown_by, unless, least, slots_at, breaks, miswritten, is_misnumbered, is_crowded, is_held_twice, broken, broken_number, broken_first, broken_values, broken_containment, broken_holding}
 use Rattle.wb_model.specs.Conditions.{meets}
 use Rattle.wb_model.specs.Contents.{Contents, Filled, members, kind}
-use Rattle.wb_model.specs.Flaws.{Finds, refusal_of}
+use Rattle.wb_model.specs.Flaws.{Finds, Names, refusal_of}
 use Rattle.wb_model.specs.Links.{Kept}
 use Rattle.wb_model.specs.Parts.{made_of, record_of, is_listed, MakeModel, Refutes}
 use Rattle.wb_model.specs.Places.{numbered}
@@ -29,10 +30,11 @@ use Rattle.wb_model.specs.ValidTest.{holders, is_within}
 use Rattle.wb_model.proofs.Breaches.{slots_meet_kept}
 use Rattle.wb_model.proofs.Findings.{nothing_shown}
 use Rattle.wb_model.proofs.Found.{is_itself}
-use Rattle.wb_model.proofs.LinkLemmas.{container_place, live_at}
+use Rattle.wb_model.proofs.LinkLemmas.{container_place, live_at, at_most_one}
 use Rattle.wb_model.proofs.Maps.{kind-numbered}
 use Rattle.wb_model.proofs.Members.{In, In-all, In-map, map-In, all_In, any_In, find-In, flat_map-In, Contains-In}
 use Rattle.wb_model.proofs.Members.In.{here, there}
+use Rattle.wb_model.proofs.Permuted.{broken-permuted}
 use Rattle.wb_model.proofs.RingLemmas.{first_step}
 use Rattle.wb_model.proofs.Shown.{shown-kinds, shown-slots}
 use Rattle.wb_model.proofs.Trees.{filter-In}
@@ -101,9 +103,6 @@ neither a b e f = λ i. option_or (e i) (f i)
 at_most_one : (n : ℕ) → ltb 1 n ≡ false → leb n 1 ≡ true
 at_most_one n h = grind (arith, nat_tests)
 
-one_at_most : (n : ℕ) → leb n 1 ≡ true → ltb 1 n ≡ false
-one_at_most n h = grind (arith, nat_tests)
-
 module _ (m : Contents) (rs : List Record) (kept : Kept m rs) where
   none_passes : (number : ℕ) (passes : ℕ → ℕ → Bool) → shown_by number (least m passes) ≡ None → (o c : ℕ) → In (o, c) (entries m.kinds) → passes o c ≡ false
   none_passes number passes e o c i = find_none (λ (e : ℕ × ℕ). passes e.0 e.1) (λ (e : ℕ × ℕ). e.0) (entries m.kinds) (nothing_shown number (least m passes) e) (o, c) i
@@ -166,7 +165,7 @@ module _ (m : Contents) (rs : List Record) (kept : Kept m rs) where
         (passed_by_none 6 _ (λ o c i. meets_all_slots Differ v.values_differ o))
         (passed_by_none 7 _ (λ o c i. meets_all_slots HeldBack v.opposites_agree o))))
         (neither _ _
-        (passed_by_none 8 _ (λ o c i. one_at_most _ (In-all (λ (e : ℕ × ℕ). leb (length (holders m e.0)) 1) (entries m.kinds) (o, c) ((contained_once-decided m).1 v.are_contained_once) i)))
+        (passed_by_none 8 _ (λ o c i. at_most_one _ (In-all (λ (e : ℕ × ℕ). leb (length (holders m e.0)) 1) (entries m.kinds) (o, c) ((contained_once-decided m).1 v.are_contained_once) i)))
         (neither _ _
         (passed_by_none 9 _ (λ o c i. false_from_ne_true _ (λ h. v.none_is_within_itself o ((is_within-decides m o o).0 h))))
         (ap (unless 10) ((roots-decided m).1 v.roots_are_uncontained)))))
@@ -291,20 +290,28 @@ module _ (metamodel : Metamodel) (next : ℕ) (parts : List Part) (roots : List 
       both_ways _ free (any_In (λ q. eqb q p.id) (miswritten metamodel parts) p.id (miswritten_In metamodel parts p i h) (is_itself p.id))))
 
 -- parts make a valid model exactly where they break no condition
-module _ (metamodel : Metamodel) (next : ℕ) (parts : List Part) (roots : List ℕ) (s : Contents) (same : s ≡ made_of metamodel next parts roots) (rs : List Record) (kept : Kept s rs) (wrong : List ℕ) (are_wrong : wrong ≡ miswritten metamodel parts) where
+module _ (metamodel : Metamodel) (next : ℕ) (parts : List Part) (roots : List ℕ) (s : Contents) (same : s ≡ made_of metamodel next parts roots) (rs : List Record) (kept : Kept s rs) (wrong : List ℕ) (are_wrong : IsPermutation (miswritten metamodel parts) wrong) where
   pub made_valid : length parts ≤ 20000 → broken s wrong ≡ None → IsValid s
   made_valid few whole = valid_from s rs kept wrong whole (subst (λ (m : Contents). len m.kinds ≤ 20000) (sym same) (few_made metamodel next parts roots few))
 
   pub made_model : length parts ≤ 20000 → broken s wrong ≡ None → MakeModel metamodel next parts roots
   made_model few whole = record {
-    listed = listed_from metamodel next parts roots rs (subst (λ m. Kept m rs) same kept) (subst (λ m. broken m (miswritten metamodel parts) ≡ None) same (subst (λ w. broken s w ≡ None) are_wrong whole));
+    listed = listed_from metamodel next parts roots rs (subst (λ m. Kept m rs) same kept) (subst (λ m. broken m (miswritten metamodel parts) ≡ None) same (broken-permuted _ _ are_wrong s ∙ whole));
     valid = subst IsValid same (made_valid few whole);
   }
 
   pub model_whole : MakeModel metamodel next parts roots → broken s wrong ≡ None
-  model_whole make = broken_none s rs kept wrong (subst IsValid (sym same) make.valid) (are_wrong ∙ none_miswritten metamodel parts make.listed)
+  model_whole make =
+      sym (broken-permuted _ _ are_wrong s)
+      ∙ broken_none s rs kept (miswritten metamodel parts) (subst IsValid (sym same) make.valid) (none_miswritten metamodel parts make.listed)
 
 -- ---- refusals
+
+-- a building that is refused names the breach that a check finds
+pub names : {A : Type 0} (flaw : Flaw) (found breach : Option Breach) → breach ≡ found → Finds (Err flaw) found → Names {A} (Err (refusal_of flaw)) breach
+names (At number object) found breach e h = e ∙ h
+names (Whole number) found breach e h = e ∙ h
+names NoMemory found breach e h = tt
 
 pub refutes : (flaw : Flaw) (breach : Option Breach) (P : Type 0) → (P → breach ≡ None) → Finds (Err flaw) breach → Refutes (refusal_of flaw) P
 refutes (At number object) breach P f h = λ p. none-some (number, Some object) (sym (f p) ∙ h)

@@ -23,7 +23,7 @@ use Rattle.wb_model.specs.Records.{kind_entry, filled, slot_entry, slot_entries,
 pub slot_cmp_total : IsTotalOrder slot_cmp
 slot_cmp_total = then_total (on_total (λ (k : ℕ × ℕ). k.0) nat_cmp_total) (on_total (λ (k : ℕ × ℕ). k.1) nat_cmp_total)
 
-tied : (a b : ℕ) → eq_by_cmp nat_cmp a b ≡ eqb a b
+pub tied : (a b : ℕ) → eq_by_cmp nat_cmp a b ≡ eqb a b
 tied a b = grind (arith, nat_tests)
 
 less : (a b : ℕ) → is_lt (nat_cmp a b) ≡ ltb a b

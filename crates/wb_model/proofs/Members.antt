@@ -1,6 +1,6 @@
 -- Members of lists, and what finite maps of lists with the same members have.
 use Rattle.std.proofs.Common.{◌≡◌, ◌≢◌, ℕ, ◌+◌, ◌<◌, ◌≤◌, suc, zero, Bool, true, false, not, ◌&&◌, ◌||◌, List, [], ◌∷◌, ◌++◌, map, length, get_or, Some, None, refl, sym, ap, subst, ◌∙◌, cond, ltb, eqb, arith, Ordering, Less, Equal, Greater, ◌⊎◌, inl, inr, ⊎_elim}
-use Rattle.std.proofs.lemmas.Bool.{and_parts, false≢true, or_left, or_right, eqb-true}
+use Rattle.std.proofs.lemmas.Bool.{and_parts, false≢true, or_left, or_right, eqb-true, eq-eqb, not-true}
 use Rattle.std.proofs.lemmas.Bool.Decides.{nat_tests}
 use Rattle.std.proofs.lemmas.Option.{none-some, same_Some}
 use Rattle.std.proofs.lemmas.List.Sums.{sum_by-cons}
@@ -147,23 +147,16 @@ module _ {K X : Type 0} {R : K → K → Ordering} (total : IsTotalOrder R) (sam
 
 -- ---- numbers that stand once
 
-not_both : (b : Bool) → b ≡ true → not b ≡ true → ⊥
+pub not_both : (b : Bool) → b ≡ true → not b ≡ true → ⊥
 not_both true e h = false≢true h
 not_both false e h = false≢true e
-
-not_true : (b : Bool) → not b ≡ true → b ≡ false
-not_true true h = sym h
-not_true false h = refl
-
-same_number : (a b : ℕ) → a ≡ b → eqb a b ≡ true
-same_number a b e = subst (λ z. eqb a z ≡ true) e (is_itself a)
 
 abbrev one_number : ℕ
 one_number = 1
 
 module _ {A : Type 0} (number : A → ℕ) where
   among : (xs : List A) (y : A) (n : ℕ) → In y xs → number y ≡ n → list_any (λ other. eqb other n) (map number xs) ≡ true
-  among xs y n m e = any_In (λ other. eqb other n) (map number xs) (number y) (In-map number xs y m) (same_number _ _ e)
+  among xs y n m e = any_In (λ other. eqb other n) (map number xs) (number y) (In-map number xs y m) (eq-eqb _ _ e)
 
   pub once-apart : (xs : List A) (x y : A) → once (map number xs) ≡ true → In x xs → In y xs → number x ≡ number y → x ≡ y
   once-apart [] x y h m n e = elim m [ ]
@@ -199,7 +192,7 @@ module _ {A : Type 0} (number : A → ℕ) where
   count_once n [] h = omega (arith, count_nil n)
   count_once n (x ∷ xs) h = subst (λ k. k ≤ 1) (sym (count-cons n x xs))
       (elim (eqb (number x) n) as (λ b. eqb (number x) n ≡ b → cond b 1 0 + count n xs ≤ 1) [
-        | true ↦ λ t. let none = count_none n xs (subst (λ k. list_any (λ other. eqb other k) (map number xs) ≡ false) (eqb-true _ _ t) (not_true _ (and_parts _ _ h).0)) in omega (arith, none)
+        | true ↦ λ t. let none = count_none n xs (subst (λ k. list_any (λ other. eqb other k) (map number xs) ≡ false) (eqb-true _ _ t) (not-true _ (and_parts _ _ h).0)) in omega (arith, none)
         | false ↦ λ t. let few = count_once n xs (and_parts _ _ h).1 in omega (arith, few)
       ] refl)
 

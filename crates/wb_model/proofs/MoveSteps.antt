@@ -14,7 +14,7 @@ use Rattle.wb_model.specs.Cells.{holds, holder}
 use Rattle.wb_model.specs.Valid.{is_root}
 use Rattle.wb_model.specs.Edits.{Link, link, relink, both_ends, change, leads_to, same_link, unlink, without_root}
 use Rattle.wb_model.proofs.Changed.{both-same}
-use Rattle.wb_model.proofs.EditSteps.{none-any, relink-relink, relink-agree, same_link-is, same_link-itself}
+use Rattle.wb_model.proofs.EditSteps.{relink-relink, relink-agree, same_link-is, same_link-itself}
 use Rattle.wb_model.proofs.Ends.{ends-this, ends-that, ends-cases}
 use Rattle.wb_model.proofs.Filtered.{filter-all}
 use Rattle.wb_model.proofs.LinkLemmas.{to_false}
@@ -22,6 +22,7 @@ use Rattle.wb_model.proofs.Live.{contained-live}
 use Rattle.wb_model.proofs.Members.{In, any_In}
 use Rattle.wb_model.proofs.Members.In.{here, there}
 use Rattle.wb_model.proofs.Sound.{Stands, contains-parts, contains-from, Sound, Housed, entry-In, In-entry}
+use Rattle.wb_model.proofs.Relinked.{none-any}
 
 -- ---- the container of an object
 

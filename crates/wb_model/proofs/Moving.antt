@@ -12,10 +12,12 @@ use Rattle.wb_model.specs.Contents.{Contents, contains, is_containment}
 use Rattle.wb_model.specs.Valid.{IsValid}
 use Rattle.wb_model.specs.Edits.{Link, link, relink, both_ends, change, same_link, unlink, leads_to, stands, without_root, moved}
 use Rattle.wb_model.specs.LinkSteps.{with_ends}
-use Rattle.wb_model.proofs.Comings.{metamodel-relink, come_then, keep_given, sound_valid, any_never}
+use Rattle.wb_model.proofs.Comings.{come_then, keep_given}
 use Rattle.wb_model.proofs.EditSteps.{relink-relink, relink-agree}
 use Rattle.wb_model.proofs.MoveSteps.{moved-held, moved-root}
-use Rattle.wb_model.proofs.Sound.{Housed, Stands, housed-from, absent, contains-parts}
+use Rattle.wb_model.proofs.Sound.{Stands, absent, contains-parts}
+use Rattle.wb_model.proofs.KeptLinks.{housed, sound}
+use Rattle.wb_model.proofs.Relinked.{metamodel-relink, none-any}
 
 -- the feature of a containment slot is one of the metamodel
 pub containment_known : (metamodel : Metamodel) (f : ℕ) → is_containment metamodel f ≡ true → f < length metamodel.features
@@ -24,10 +26,6 @@ containment_known metamodel f h =
       | None ↦ λ e h. absurd (false≢true h)
       | Some feature ↦ λ e h. slice_get_within metamodel.features f feature e
     ] refl h
-
-pub housed_valid : (m : Contents) → IsValid m → Housed m
-unfolding IsValid
-housed_valid m valid = housed-from m valid
 
 or_last : (b c : Bool) → c ≡ false → (b || c) ≡ b
 or_last true c h = refl
@@ -43,14 +41,14 @@ module _ (m : Contents) (well : WellFormed m.metamodel) (valid : IsValid m) wher
       let comes : List Link = flat_map (both_ends mm) (l ∷ []) in
       ap (λ (metamodel : Metamodel). relink (λ j. list_any (λ k. false) (both_ends metamodel j)) (flat_map (both_ends metamodel) (l ∷ [])) (unlink held m)) (metamodel-relink b [] m)
       ∙ relink-relink b never [] comes m
-      ∙ relink-agree (λ j. b j || never j) b ([] ++ comes) comes m (λ j st. or_last (b j) (never j) (any_never (both_ends mm j))) (λ o f. refl)
+      ∙ relink-agree (λ j. b j || never j) b ([] ++ comes) comes m (λ j st. or_last (b j) (never j) (none-any (both_ends mm j))) (λ o f. refl)
 
   come_leave : (held l : Link) → Stands m held → stands m l ≡ false → unlink held (with_ends l m) ≡ change (same_link held) (l ∷ []) m
   come_leave held l st fresh =
       let mm = m.metamodel in
       let b : Link → Bool = λ j. list_any (same_link held) (both_ends mm j) in
       ap (λ (metamodel : Metamodel). relink (λ j. list_any (same_link held) (both_ends metamodel j)) [] (with_ends l m)) (metamodel-relink _ _ m)
-      ∙ come_then m b (same_link held) l (λ j s. refl) (λ j i. keep_given m well (sound_valid m valid) l held (absent m l fresh) st j i)
+      ∙ come_then m b (same_link held) l (λ j s. refl) (λ j i. keep_given m well (sound m valid) l held (absent m l fresh) st j i)
 
   moved_fresh : (o p f : ℕ) → stands m (link p f (Object o)) ≡ false → change (leads_to m.metamodel o) (link p f (Object o) ∷ []) (without_root o m) ≡ moved o p f m
   moved_fresh o p f fresh = sym (ap (λ b. cond b m (change (leads_to m.metamodel o) (link p f (Object o) ∷ []) (without_root o m))) fresh)
@@ -61,7 +59,7 @@ module _ (m : Contents) (well : WellFormed m.metamodel) (valid : IsValid m) wher
       let held : Link = link q g (Object o) in
       come_leave held l (contains-parts m q g o c).1 fresh
       ∙ sym (leave_then held l)
-      ∙ sym (moved-held m (sound_valid m valid) (housed_valid m valid) o q g l c)
+      ∙ sym (moved-held m (sound m valid) (housed m valid) o q g l c)
       ∙ moved_fresh o p f fresh
 
   root_last : (o : ℕ) (l : Link) → without_root o (with_ends l m) ≡ with_ends l (without_root o m)
@@ -71,5 +69,5 @@ module _ (m : Contents) (well : WellFormed m.metamodel) (valid : IsValid m) wher
   pub rehoused_root : (o p f : ℕ) → ((q g : ℕ) → contains m q g o ≡ false) → stands m (link p f (Object o)) ≡ false → without_root o (with_ends (link p f (Object o)) m) ≡ moved o p f m
   rehoused_root o p f free fresh =
       root_last o (link p f (Object o))
-      ∙ sym (moved-root m (sound_valid m valid) (housed_valid m valid) o (link p f (Object o)) free)
+      ∙ sym (moved-root m (sound m valid) (housed m valid) o (link p f (Object o)) free)
       ∙ moved_fresh o p f fresh

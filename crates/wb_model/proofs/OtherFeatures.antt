@@ -18,7 +18,7 @@ use Rattle.wb_model.proofs.Filtered.{filter-all}
 use Rattle.wb_model.proofs.KeptCreated.{In-ends}
 use Rattle.wb_model.proofs.KeptLinks.{accepted}
 use Rattle.wb_model.proofs.LinkLemmas.{any_found, to_false}
-use Rattle.wb_model.proofs.Relinked.{values_at, is_at-link, slot-relink, kind-relink}
+use Rattle.wb_model.proofs.Relinked.{values_at, is_at-link, slot-relink, kind-relink, roots-relink}
 
 -- ---- other features
 
@@ -91,16 +91,12 @@ module _ (m : Contents) (well : WellFormed m.metamodel) (f h : ℕ) (other : IsO
 
 -- ---- classes and roots
 
-same-roots : (leaves : Link → Bool) (comes : List Link) (m : Contents) → (relink leaves comes m).roots ≡ m.roots
-unfolding relink
-same-roots leaves comes m = refl
-
 module _ (m : Contents) (well : WellFormed m.metamodel) (f : ℕ) where
   only-left : (leaves : Link → Bool) → ((h : ℕ) → IsOther m.metamodel f h → (q : ℕ) → slot (change leaves [] m) q h ≡ slot m q h) → ChangesOnly m (change leaves [] m) f
   only-left leaves slots = record {
     slots = λ q h a b. slots h (a, b) q;
     classes = λ q. kind-relink (λ l. list_any leaves (both_ends m.metamodel l)) [] m q;
-    roots = same-roots (λ l. list_any leaves (both_ends m.metamodel l)) [] m;
+    roots = roots-relink (λ l. list_any leaves (both_ends m.metamodel l)) [] m;
   }
 
   only-linked : (l : Link) → l.feature ≡ f → ChangesOnly m (link_up l m) f
@@ -110,7 +106,7 @@ module _ (m : Contents) (well : WellFormed m.metamodel) (f : ℕ) where
       record {
         slots = λ q h a b. other-linked m well f h (a, b) q l at;
         classes = λ q. elim (stands m l) as (λ b. kind (cond b m (relink goes come m)) q ≡ kind m q) [ true ↦ refl | false ↦ kind-relink goes come m q ];
-        roots = elim (stands m l) as (λ b. (cond b m (relink goes come m)).roots ≡ m.roots) [ true ↦ refl | false ↦ same-roots goes come m ];
+        roots = elim (stands m l) as (λ b. (cond b m (relink goes come m)).roots ≡ m.roots) [ true ↦ refl | false ↦ roots-relink goes come m ];
       }
 
   module _ (n : Contents) (o : ℕ) where

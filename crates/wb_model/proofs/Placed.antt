@@ -1,6 +1,6 @@
 -- A list that rises keeps rising where one of it is replaced by one of the same number, or a new one comes at its gap; and what it then has at each number.
-use Rattle.std.proofs.Common.{◌≡◌, ◌≢◌, ℕ, ◌<◌, ◌≤◌, suc, zero, Bool, true, false, ◌&&◌, List, [], ◌∷◌, ◌++◌, length, get_or, set, take, drop, Some, None, refl, sym, ap, subst, ◌∙◌, cond, ltb, eqb, arith, Ordering, Result, Ok, Err}
-use Rattle.std.proofs.lemmas.Bool.{and_parts, false≢true, eqb-true}
+use Rattle.std.proofs.Common.{◌≡◌, ◌≢◌, ℕ, ◌<◌, ◌≤◌, suc, zero, Bool, true, false, ◌&&◌, List, [], ◌∷◌, ◌++◌, length, get_or, set, take, drop, Some, None, refl, sym, ap, subst, ◌∙◌, cond, ltb, eqb, arith, Ordering, Result, Ok, Err, Option}
+use Rattle.std.proofs.lemmas.Bool.{and_parts, false≢true, eqb-true, lt-ltb}
 use Rattle.std.proofs.lemmas.Bool.Decides.{nat_tests}
 use Rattle.std.proofs.lemmas.Cmp.{nat_cmp_total}
 use Rattle.std.proofs.lemmas.List.Sorted.{searchable_from_sorted}
@@ -11,9 +11,12 @@ use Rattle.std.specs.List.Sorted.{IsBinarySearchResult, IsSearchInRange}
 use Rattle.wb_model.specs.Places.{rises, numbered}
 use Rattle.wb_model.specs.Slots.{IsGapFor, IsPlaceOrGap}
 use Rattle.wb_model.proofs.Found.{rises-below, rises-sorted}
+use Rattle.std.specs.Option.{option_map_or}
 
-below : (a b : ℕ) → a < b → ltb a b ≡ true
-below a b h = grind (arith, nat_tests)
+-- what is read of the one that a test picks
+pub pick : {A B : Type 0} (f : A → B) (d : B) (b : Bool) (x : A) (r : Option A) → option_map_or f (cond b (Some x) r) d ≡ cond b (f x) (option_map_or f r d)
+pick f d true x r = refl
+pick f d false x r = refl
 
 -- two that have different numbers may be asked in any order
 swap_tests : {A : Type 0} (a b : ℕ) (m : ℕ) (x y z : A) → a ≢ b → cond (eqb m a) x (cond (eqb m b) y z) ≡ cond (eqb m b) y (cond (eqb m a) x z)
@@ -75,9 +78,9 @@ module _ {A : Type 0} (number : A → ℕ) where
   pub rises-insert : (xs : List A) (i : ℕ) (x : A) → rises number xs ≡ true → IsGapFor number xs (number x) i → rises number (take i xs ++ x ∷ drop i xs) ≡ true
   rises-insert [] zero x h gap = refl
   rises-insert [] (suc i) x h gap = absurd (omega (arith, gap.within))
-  rises-insert (y ∷ ys) zero x h gap = λ j. all_from (λ z. ltb (number x) (number z)) (y ∷ ys) (λ k d l. below _ _ (gap.above k d (omega arith) l)) j && h j
+  rises-insert (y ∷ ys) zero x h gap = λ j. all_from (λ z. ltb (number x) (number z)) (y ∷ ys) (λ k d l. lt-ltb _ _ (gap.above k d (omega arith) l)) j && h j
   rises-insert (y ∷ ys) (suc i) x h gap = λ j.
-      all-insert (λ z. ltb (number y) (number z)) ys i x (and_parts _ _ h).0 (below _ _ (gap.below 0 y (omega arith))) j
+      all-insert (λ z. ltb (number y) (number z)) ys i x (and_parts _ _ h).0 (lt-ltb _ _ (gap.below 0 y (omega arith))) j
       && rises-insert ys i x (and_parts _ _ h).1 (later y ys (number x) i gap) j
 
   pub numbered-insert : (xs : List A) (i : ℕ) (x : A) (m : ℕ) → IsGapFor number xs (number x) i → numbered number m (take i xs ++ x ∷ drop i xs) ≡ cond (eqb m (number x)) (Some x) (numbered number m xs)

@@ -13,14 +13,13 @@ use Rattle.wb_model.specs.Contents.{Contents, kind, slot, is_containment}
 use Rattle.wb_model.specs.Cells.{is_plain}
 use Rattle.wb_model.specs.Edits.{Link, link, relink, both_ends, change, leads_to, stands, with_object, without_root, created, moved, refusal_of_create, refusal_of_move, create, move_to}
 use Rattle.wb_model.proofs.Changed.{alone-ends}
-use Rattle.wb_model.proofs.EditSteps.{none-any}
 use Rattle.wb_model.proofs.Ends.{plain-parts, plain-other, opposite-back, ends-cases}
 use Rattle.wb_model.proofs.Filtered.{filter-all}
 use Rattle.wb_model.proofs.KeptCreated.{In-ends, may-place, may-hold, kind-other}
 use Rattle.wb_model.proofs.KeptLinks.{accepted}
 use Rattle.wb_model.proofs.KeptMoved.{may-move, moves-into}
 use Rattle.wb_model.proofs.LinkLemmas.{to_false}
-use Rattle.wb_model.proofs.Relinked.{values_at, slot-relink, kind-relink}
+use Rattle.wb_model.proofs.Relinked.{values_at, slot-relink, kind-relink, none-any}
 
 module _ (m : Contents) (well : WellFormed m.metamodel) (h : ℕ) (plain : is_plain m.metamodel h ≡ true) (q : ℕ) where
   -- with a containment link no link of a plain feature comes

@@ -22,6 +22,7 @@ use Rattle.wb_model.proofs.KeptRemoved.{kind-without, slot-without}
 use Rattle.wb_model.proofs.Maps.{kind-numbered, slot-numbered}
 use Rattle.wb_model.proofs.Members.{all_In, In-all}
 use Rattle.wb_model.proofs.Relinked.{same_contents}
+use Rattle.wb_model.proofs.Growing.{all_push}
 
 -- ---- an object is made
 
@@ -42,16 +43,12 @@ module _ (metamodel : Metamodel) (next class : ℕ) (rs : List Record) (roots mo
       ap (from_entries {R = slot_cmp}) (flat_map-append slot_entries rs (new ∷ []) ∙ append-nil (flat_map slot_entries rs)) in
       λ i. record { metamodel = metamodel; next = suc next; kinds = kinds i; slots = slots i; roots = more }
 
-all-push : {A : Type 0} (p : A → Bool) (xs : List A) (x : A) → list_all p xs ≡ true → p x ≡ true → list_all p (xs ++ x ∷ []) ≡ true
-all-push p [] x h e = and_from _ _ e refl
-all-push p (y ∷ ys) x h e = let both = and_parts (p y) (list_all p ys) h in and_from _ _ both.0 (all-push p ys x both.1 e)
-
 rises-push : {A : Type 0} (number : A → ℕ) (xs : List A) (x : A) → rises number xs ≡ true → list_all (λ y. ltb (number y) (number x)) xs ≡ true → rises number (xs ++ x ∷ []) ≡ true
 rises-push number [] x h below = refl
 rises-push number (y ∷ ys) x h below =
     let both = and_parts (list_all (λ z. ltb (number y) (number z)) ys) (rises number ys) h in
     let under = and_parts (ltb (number y) (number x)) (list_all (λ z. ltb (number z) (number x)) ys) below in
-    and_from _ _ (all-push (λ z. ltb (number y) (number z)) ys x both.0 under.0) (rises-push number ys x both.1 under.1)
+    and_from _ _ (all_push (λ z. ltb (number y) (number z)) ys x both.0 under.0) (rises-push number ys x both.1 under.1)
 
 -- the list stays in order, where the numbers of all objects are below
 pub plain-with : (metamodel : Metamodel) (rs : List Record) (o class : ℕ) → IsPlain metamodel rs → class < length metamodel.classes → list_all (λ (r : Record). ltb r.id o) rs ≡ true → IsPlain metamodel (with_record o class rs)
@@ -59,8 +56,8 @@ plain-with metamodel rs o class plain known below =
     let new : Record = record { id = o; class = class; slots = [] } in
     record {
       objects_rise = rises-push id_of rs new plain.objects_rise below;
-      slots_rise = all-push (λ (r : Record). rises feature_of r.slots) rs new plain.slots_rise refl;
-      known = all-push (is_known metamodel) rs new plain.known (and_from _ _ (lt-ltb class (length metamodel.classes) known) refl);
+      slots_rise = all_push (λ (r : Record). rises feature_of r.slots) rs new plain.slots_rise refl;
+      known = all_push (is_known metamodel) rs new plain.known (and_from _ _ (lt-ltb class (length metamodel.classes) known) refl);
     }
 
 -- ---- objects are removed

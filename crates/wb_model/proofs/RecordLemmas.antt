@@ -12,16 +12,12 @@ use Rattle.wb_model.specs.Places.{rises, numbered, IsPlaceOf}
 use Rattle.wb_model.specs.Records.{id_of, feature_of, values_in, is_known_slot, is_known, kind_entry}
 use Rattle.wb_model.specs.Slots.{SlotsChange, held_at, RecordsChange}
 use Rattle.wb_model.proofs.Found.{all_numbered, numbered_read, numbered_none}
-use Rattle.wb_model.proofs.Placed.{rises-set, numbered-set, all-set}
+use Rattle.wb_model.proofs.Placed.{rises-set, numbered-set, all-set, pick}
 
 map-set : {A B : Type 0} (f : A → B) (xs : List A) (i : ℕ) (x : A) → f x ≡ f (get_or xs i x) → i < length xs → map f (set xs i x) ≡ map f xs
 map-set f [] i x e l = refl
 map-set f (y ∷ ys) zero x e l = λ j. e j ∷ map f ys
 map-set f (y ∷ ys) (suc i) x e l = λ j. f y ∷ map-set f ys i x e (omega arith) j
-
-pick : {A B : Type 0} (f : A → B) (d : B) (b : Bool) (x : A) (r : Option A) → option_map_or f (cond b (Some x) r) d ≡ cond b (f x) (option_map_or f r d)
-pick f d true x r = refl
-pick f d false x r = refl
 
 read_from : {A : Type 0} (xs : List A) (i : ℕ) (x y : A) → i < length xs → get_or xs i x ≡ get_or xs i y
 read_from [] i x y l = absurd (omega arith)

@@ -185,3 +185,27 @@ same_contents m n metamodel next roots kinds slots =
     let same_kinds : m.kinds ≡ n.kinds = same_map nat_cmp_total nat_cmp-IsAntisymmetric m.kinds n.kinds kinds in
     let same_slots : m.slots ≡ n.slots = same_map slot_cmp_total slot_cmp-IsAntisymmetric m.slots n.slots (λ k. same_filled (get m.slots k) (get n.slots k) (slots k.0 k.1)) in
     λ i. record { metamodel = metamodel i; next = next i; kinds = same_kinds i; slots = same_slots i; roots = roots i }
+
+-- ---- what a change of links leaves as it was
+
+pub metamodel-relink : (leaves : Link → Bool) (comes : List Link) (m : Contents) → (relink leaves comes m).metamodel ≡ m.metamodel
+unfolding relink
+metamodel-relink leaves comes m = refl
+
+pub next-relink : (leaves : Link → Bool) (comes : List Link) (m : Contents) → (relink leaves comes m).next ≡ m.next
+unfolding relink
+next-relink leaves comes m = refl
+
+pub kinds-relink : (leaves : Link → Bool) (comes : List Link) (m : Contents) → (relink leaves comes m).kinds ≡ m.kinds
+unfolding relink
+kinds-relink leaves comes m = refl
+
+pub roots-relink : (leaves : Link → Bool) (comes : List Link) (m : Contents) → (relink leaves comes m).roots ≡ m.roots
+unfolding relink
+roots-relink leaves comes m = refl
+
+-- ---- tests that nothing passes
+
+pub none-any : (ls : List Link) → list_any (λ k. false) ls ≡ false
+none-any [] = refl
+none-any (l ∷ ls) = none-any ls

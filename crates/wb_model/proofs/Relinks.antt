@@ -32,7 +32,7 @@ pub same_test : {A : Type 0} (p q : A → Bool) → ((x : A) → p x ≡ q x) �
 same_test p q h [] = refl
 same_test p q h (x ∷ xs) = λ i. cond (h x i) (x ∷ same_test p q h xs i) (same_test p q h xs i)
 
-eqb_sym : (a b : ℕ) → eqb a b ≡ eqb b a
+pub eqb_sym : (a b : ℕ) → eqb a b ≡ eqb b a
 eqb_sym a b = grind (arith, nat_tests)
 
 -- ---- one step, on a list of objects

@@ -12,11 +12,9 @@ use Rattle.wb_model.specs.Places.{rises, numbered}
 use Rattle.wb_model.specs.Records.{id_of, feature_of, values_in, is_known, is_known_slot, contents_of, IsPlain}
 use Rattle.wb_model.specs.Removals.{values_left, slot_left, record_left, stays}
 use Rattle.wb_model.specs.Edits.{relink, touches, is_among, without}
-use Rattle.wb_model.proofs.Comings.{metamodel-relink}
-use Rattle.wb_model.proofs.Creating.{next-relink}
 use Rattle.wb_model.proofs.KeptRemoved.{kind-without, slot-without}
 use Rattle.wb_model.proofs.Maps.{kind-numbered, slot-numbered}
-use Rattle.wb_model.proofs.Relinked.{same_contents}
+use Rattle.wb_model.proofs.Relinked.{same_contents, metamodel-relink, next-relink}
 
 -- ---- filters and maps of lists that rise
 

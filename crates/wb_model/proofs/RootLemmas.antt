@@ -1,7 +1,7 @@
 -- Roots taken up one by one, until all objects in no containment slot are met.
 use Rattle.std.proofs.Common.{◌≡◌, ◌≢◌, ℕ, ◌+◌, ◌<◌, ◌≤◌, suc, zero, Bool, true, false, not, ◌&&◌, ◌||◌, List, [], ◌∷◌, ◌++◌, length, get_or, take, All, Option, Some, None, refl, sym, ap, subst, ◌∙◌, eqb, arith, ⊎_elim}
 use Rattle.std.proofs.Math.ListN.{set, length-set}
-use Rattle.std.proofs.lemmas.Bool.{and_parts, eqb-true, false≢true}
+use Rattle.std.proofs.lemmas.Bool.{and_parts, eqb-true, false≢true, not-true}
 use Rattle.std.proofs.lemmas.Bool.Decides.{nat_tests}
 use Rattle.std.proofs.lemmas.Option.{same_Some, get_or_from_slice_get, slice_get_within}
 use Rattle.std.proofs.lemmas.List.{take_more}
@@ -19,17 +19,13 @@ use Rattle.wb_model.specs.Links.{Kept, KnowsHolders}
 use Rattle.wb_model.specs.Roots.{TakesRoot, IsNoRoot, AllSeen, IsUnseen}
 use Rattle.wb_model.specs.Roots.IsNoRoot.{dead, contained, again}
 use Rattle.wb_model.proofs.Found.{is_itself}
-use Rattle.wb_model.proofs.Members.{In, any_In, In-append_left, In-append_right, In-append_cases, In-Contains}
+use Rattle.wb_model.proofs.Members.{In, any_In, In-append_left, In-append_right, In-append_cases, In-Contains, not_both}
 use Rattle.wb_model.proofs.Members.In.{here, there}
 use Rattle.wb_model.proofs.HolderLemmas.{decide, get-set_same, get-set_other, place_not_both, place_unique}
 use Rattle.wb_model.proofs.LinkLemmas.{any_found, place_at, place_get, live_place, live_at}
 use Rattle.wb_model.proofs.Climbing.{element_at}
 
 -- ---- lists in which each number stands once
-
-not_both : (b : Bool) → b ≡ true → not b ≡ true → ⊥
-not_both true e h = false≢true h
-not_both false e h = false≢true e
 
 among : (xs : List ℕ) (o : ℕ) → In o xs → list_any (λ other. eqb other o) xs ≡ true
 among xs o m = any_In (λ other. eqb other o) xs o m (is_itself o)
@@ -40,14 +36,10 @@ from_among xs o h = let f = any_found (λ other. eqb other o) xs h in subst (λ 
 apart : (a b : ℕ) → a ≢ b → eqb a b ≡ false
 apart a b h = grind (arith, nat_tests)
 
-not_true : (b : Bool) → not b ≡ true → b ≡ false
-not_true true h = sym h
-not_true false h = refl
-
 once-push : (xs : List ℕ) (o : ℕ) → once xs ≡ true → (In o xs → ⊥) → once (xs ++ o ∷ []) ≡ true
 once-push [] o h n = refl
 once-push (x ∷ xs) o h n =
-    let here_not : list_any (λ other. eqb other x) xs ≡ false = not_true _ (and_parts _ _ h).0 in
+    let here_not : list_any (λ other. eqb other x) xs ≡ false = not-true _ (and_parts _ _ h).0 in
     let new_not : eqb o x ≡ false = apart o x (λ e. n (subst (λ z. In o (z ∷ xs)) e here)) in
     let none : list_any (λ other. eqb other x) (xs ++ o ∷ []) ≡ false =
     list_any-append (λ other. eqb other x) xs (o ∷ []) ∙ (λ i. here_not i || (new_not i || false)) in

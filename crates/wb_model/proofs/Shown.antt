@@ -1,21 +1,17 @@
 -- What the list of kept objects says of the contents that it shows.
-use Rattle.std.proofs.Common.{◌≡◌, ℕ, ◌<◌, true, length, ltb, arith, List}
-use Rattle.std.proofs.lemmas.Bool.{and_parts}
-use Rattle.std.proofs.lemmas.Bool.Decides.{nat_tests}
+use Rattle.std.proofs.Common.{◌≡◌, ◌<◌, true, length, List}
+use Rattle.std.proofs.lemmas.Bool.{and_parts, ltb-true}
 use Rattle.wb_metamodel.specs.Metamodel.{Metamodel}
 use Rattle.wb_model.specs.declared.records.Record.{Record}
-use Rattle.std.proofs.Common.{ℕ, map, ap, ◌∙◌}
+use Rattle.std.proofs.Common.{map, ap, ◌∙◌}
 use Rattle.std.specs.List.{flat_map}
 use Rattle.std.specs.FinMap.{entries}
 use Rattle.wb_model.specs.Contents.{Contents}
 use Rattle.wb_model.specs.Records.{is_known, contents_of, IsPlain, kind_entry, slot_entries}
 use Rattle.wb_model.proofs.Maps.{entries-kinds, entries-slots}
 
-below : (a b : ℕ) → ltb a b ≡ true → a < b
-below a b h = grind (arith, nat_tests)
-
 pub is_class_known : (metamodel : Metamodel) (r : Record) → is_known metamodel r ≡ true → r.class < length metamodel.classes
-is_class_known metamodel r h = below _ _ (and_parts _ _ h).0
+is_class_known metamodel r h = ltb-true _ _ (and_parts _ _ h).0
 
 module _ (m : Contents) (rs : List Record) (shown : m ≡ contents_of m.metamodel m.next rs m.roots) (plain : IsPlain m.metamodel rs) where
   pub shown-kinds : entries m.kinds ≡ map kind_entry rs

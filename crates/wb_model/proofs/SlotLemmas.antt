@@ -1,7 +1,6 @@
 -- Changes of one slot: by a slot that is replaced, by a new slot, and one after another.
-use Rattle.std.proofs.Common.{◌≡◌, ◌≢◌, ℕ, ◌<◌, ◌≤◌, Bool, true, false, ◌&&◌, List, [], ◌∷◌, ◌++◌, length, get_or, set, take, drop, Some, None, refl, sym, ap, subst, ◌∙◌, cond, ltb, eqb, arith}
-use Rattle.std.proofs.lemmas.Bool.{eqb-true}
-use Rattle.std.proofs.lemmas.Bool.Decides.{nat_tests}
+use Rattle.std.proofs.Common.{◌≡◌, ◌≢◌, ℕ, ◌≤◌, Bool, true, false, ◌&&◌, List, [], ◌∷◌, ◌++◌, length, get_or, set, take, drop, Some, None, refl, sym, ap, subst, ◌∙◌, cond, ltb, eqb}
+use Rattle.std.proofs.lemmas.Bool.{eqb-true, lt-ltb}
 use Rattle.std.specs.Option.{option_map_or}
 use Rattle.wb_model.specs.declared.scalars.Scalar.{Scalar}
 use Rattle.wb_model.specs.declared.records.Slot.{Slot}
@@ -9,14 +8,7 @@ use Rattle.wb_model.specs.Places.{rises, numbered, IsPlaceOf}
 use Rattle.wb_model.specs.Records.{feature_of, values_in, is_known_slot}
 use Rattle.wb_model.specs.Slots.{IsGapFor, SlotsChange}
 use Rattle.wb_model.proofs.Found.{numbered_read, numbered_none, is_itself}
-use Rattle.wb_model.proofs.Placed.{rises-set, numbered-set, all-set, rises-insert, numbered-insert, none-gap, all-insert}
-
-pick : {A B : Type 0} (f : A → B) (d : B) (b : Bool) (x : A) (r : Rattle.std.specs.Prelude.Option A) → option_map_or f (cond b (Some x) r) d ≡ cond b (f x) (option_map_or f r d)
-pick f d true x r = refl
-pick f d false x r = refl
-
-below : (a b : ℕ) → a < b → ltb a b ≡ true
-below a b h = grind (arith, nat_tests)
+use Rattle.wb_model.proofs.Placed.{rises-set, numbered-set, all-set, rises-insert, numbered-insert, none-gap, all-insert, pick}
 
 itself : (b : Bool) (m n : ℕ) (x : List Scalar) (f : ℕ → List Scalar) → eqb m n ≡ b → f m ≡ cond b (f n) (f m)
 itself true m n x f e = ap f (eqb-true m n e)
@@ -28,7 +20,7 @@ change_none f slots h = record { rise = h; known = λ mm l k. k; at = λ g. itse
 pub change_set : (f : ℕ) (slots : List Slot) (i : ℕ) (s : Slot) → rises feature_of slots ≡ true → IsPlaceOf feature_of slots f (Some i) → s.feature ≡ f → SlotsChange f s.values slots (set slots i s)
 change_set f slots i s h place is = record {
   rise = rises-set feature_of slots i s place.0 (is ∙ sym (place.1 s)) ∙ h;
-  known = λ mm l k. all-set (is_known_slot mm) slots i s k (subst (λ f. ltb f (length mm.features) ≡ true) (sym is) (below _ _ l));
+  known = λ mm l k. all-set (is_known_slot mm) slots i s k (subst (λ f. ltb f (length mm.features) ≡ true) (sym is) (lt-ltb _ _ l));
   at = λ g.
       ap (λ r. option_map_or (λ (s : Slot). s.values) r []) (numbered-set feature_of slots i s g h place.0 (is ∙ sym (place.1 s)))
       ∙ pick (λ (s : Slot). s.values) [] (eqb g s.feature) s (numbered feature_of g slots)
@@ -40,7 +32,7 @@ change_insert f slots i s h gap is =
     let own = subst (λ f. IsGapFor feature_of slots f i) (sym is) gap in
     record {
       rise = rises-insert feature_of slots i s h own;
-      known = λ mm l k. all-insert (is_known_slot mm) slots i s k (subst (λ f. ltb f (length mm.features) ≡ true) (sym is) (below _ _ l));
+      known = λ mm l k. all-insert (is_known_slot mm) slots i s k (subst (λ f. ltb f (length mm.features) ≡ true) (sym is) (lt-ltb _ _ l));
       at = λ g.
           ap (λ r. option_map_or (λ (s : Slot). s.values) r []) (numbered-insert feature_of slots i s g own)
           ∙ pick (λ (s : Slot). s.values) [] (eqb g s.feature) s (numbered feature_of g slots)

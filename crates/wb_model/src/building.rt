@@ -8,6 +8,7 @@ ghost use Rattle.wb_model.specs.Records.{is_known_slot};
 use crate::checks::check_all;
 use crate::flaws::Flaw;
 use crate::model::Model;
+use crate::object_sets::ObjectSet;
 use crate::parts::{BuildRefusal, Part, SlotPart};
 use crate::store::Store;
 use std::alloc::{AllocError, Global};
@@ -28,10 +29,11 @@ pub fn build(
     ensures refused { IfErr result (λ refusal. Refutes refusal (MakeModel metamodel next objects roots)) }
     ensures named { Names result (broken (made_of metamodel next objects roots) (miswritten metamodel objects)) }
 {
-    let wrong = miswritten(alloc, &metamodel, objects.as_slice())?;
+    let listed = miswritten(alloc, &metamodel, objects.as_slice())?;
+    let wrong = ObjectSet::new(listed)?;
     let store = Store::from_parts(alloc, metamodel, next, objects, roots)?;
     store.is_kept();
-    match check_all(alloc, &store, wrong.as_slice()) {
+    match check_all(alloc, &store, &wrong) {
         Ok(()) => Ok(Model::new(store)),
         Err(flaw) => Err(refusal_of(flaw)),
     }

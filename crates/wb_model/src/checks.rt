@@ -11,6 +11,7 @@ use crate::flaws::Flaw;
 use crate::holders::holders;
 use crate::links::containment_links;
 use crate::marks::first_marked;
+use crate::object_sets::ObjectSet;
 use crate::records::Record;
 use crate::rings::object_on_ring;
 use crate::store::Store;
@@ -20,7 +21,7 @@ use wb_metamodel::ObjectId;
 
 /// The first condition of a valid model that is broken. The objects that are `wrong` have a slot that is not written
 /// as it is to be.
-pub fn check_all(alloc: Global, store: &Store, wrong: &[ObjectId]) -> Result<(), Flaw>
+pub fn check_all(alloc: Global, store: &Store, wrong: &ObjectSet) -> Result<(), Flaw>
     ensures { Finds result (broken store.now wrong.now) }
 {
     check_first(store, wrong)?;
@@ -28,7 +29,7 @@ pub fn check_all(alloc: Global, store: &Store, wrong: &[ObjectId]) -> Result<(),
     check_containment(alloc, store)
 }
 
-fn check_first(store: &Store, wrong: &[ObjectId]) -> Result<(), Flaw>
+fn check_first(store: &Store, wrong: &ObjectSet) -> Result<(), Flaw>
     ensures { Finds result (broken_first store.now wrong.now) }
 {
     check_numbers(store)?;

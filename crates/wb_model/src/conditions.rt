@@ -7,6 +7,7 @@ ghost use Rattle.wb_model.specs.Conditions.{meets};
 ghost use Rattle.wb_model.specs.Records.{is_known_slot, slot_entries, slot_entry};
 ghost use Rattle.wb_model.specs.Valid.{is_abstract, is_of_class, room, opposite, is_of_kind, is_integer, is_boolean, is_text, is_literal, is_instance, conforms_to, is_of_feature, differ, holds_back, is_held_back};
 
+use crate::object_sets::ObjectSet;
 use crate::records::{Record, Slot, has_object};
 use crate::scalars::Scalar;
 use crate::store::Store;
@@ -40,7 +41,7 @@ pub fn breaking_object(store: &Store, condition: Condition) -> Option<ObjectId>
 }
 
 /// The least object that is one of these, or has a slot with more values than there is room for.
-pub fn crowded_object(store: &Store, wrong: &[ObjectId]) -> Option<ObjectId>
+pub fn crowded_object(store: &Store, wrong: &ObjectSet) -> Option<ObjectId>
     ensures { result ≡ least store.now (λ o c. is_crowded store.now wrong.now o) }
 {
     for record in store.records() {
@@ -51,11 +52,11 @@ pub fn crowded_object(store: &Store, wrong: &[ObjectId]) -> Option<ObjectId>
     None
 }
 
-fn is_crowded(store: &Store, wrong: &[ObjectId], record: &Record) -> bool
+fn is_crowded(store: &Store, wrong: &ObjectSet, record: &Record) -> bool
     requires { list_all (is_known_slot store.now.metamodel) record.now.slots ≡ true }
     ensures { result ≡ (list_any (λ p. nat_eq p record.now.id) wrong.now || not (list_all (λ e. meets store.now Condition.HasRoom e.0.0 e.0.1 (members e.1)) (slot_entries record.now))) }
 {
-    if wrong.contains(&record.id) {
+    if wrong.contains(record.id) {
         true
     } else {
         !slots_meet(

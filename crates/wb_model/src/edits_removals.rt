@@ -4,6 +4,7 @@ ghost use Rattle.wb_model.specs.Edits.{remove, Edited};
 ghost use Rattle.wb_model.specs.Valid.{IsValid};
 
 use crate::edits_checks::is_live;
+use crate::object_sets::ObjectSet;
 use crate::refusals::ModelRefusal;
 use crate::store::Store;
 use std::alloc::{AllocError, Global};
@@ -18,7 +19,8 @@ impl Store {
         if !is_live(self, o) {
             return Err(ModelRefusal::UnknownObject);
         }
-        let dead = self.with_content(alloc, o)?;
+        let objects = self.with_content(alloc, o)?;
+        let dead = ObjectSet::new(objects)?;
         self.without(alloc, &dead);
         Ok(())
     }

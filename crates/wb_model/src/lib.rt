@@ -24,6 +24,7 @@ mod inverse;
 mod links;
 mod marks;
 mod model;
+mod object_sets;
 mod objects;
 mod parts;
 mod records;

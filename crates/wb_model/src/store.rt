@@ -10,6 +10,7 @@ ghost use Rattle.wb_model.specs.Records.{is_known_slot, feature_of};
 
 use crate::arranged::arranged_records;
 use crate::copies::{copy_objects, copy_records};
+use crate::object_sets::ObjectSet;
 use crate::parts::Part;
 use crate::records::{Record, Slot, find_object, holding_object, values_of};
 use crate::removals::{drop_from_records, drop_objects, drop_records};
@@ -225,7 +226,7 @@ impl Store {
     }
 
     /// Deletes objects, with every occurrence of them.
-    pub fn without(&mut self, alloc: Global, dead: &[ObjectId])
+    pub fn without(&mut self, alloc: Global, dead: &ObjectSet)
         ensures { self.new ≡ without dead.now self.old }
     {
         drop_records(&mut self.records, dead);

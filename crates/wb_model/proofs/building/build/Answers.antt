@@ -1,5 +1,6 @@
 use Rattle.std.proofs.Common.{◌≡◌, ◌∙◌, sym, ap, subst, true, List}
 use Rattle.std.proofs.lemmas.List.Folds.{list_all-map}
+use Rattle.std.specs.List.Sorted.{IsPermutation}
 use Rattle.wb_model.specs.declared.parts.Part.{Part}
 use Rattle.wb_model.specs.declared.parts.BuildRefusal.{BuildRefusal}
 use Rattle.wb_model.specs.Broken.{broken, miswritten}
@@ -14,17 +15,17 @@ miswritten-requires c =
 
 pub new-requires : goal.new-requires
 new-requires c =
-    let wrong = c.as_slice-2.ensures.value ∙ c.in_ok-wrong.ensures ∙ ap (miswritten c.args.metamodel) c.as_slice.ensures in
-    made_valid c.args.metamodel c.args.next c.args.objects c.args.roots c.in_ok-store.store c.in_ok-store.ensures c.is_kept.ensures.0 c.is_kept.ensures.1 c.as_slice-2.result.now wrong c.requires.few c.in-Ok.ensures
+    let wrong = subst (λ ws. IsPermutation ws c.in_ok-wrong.wrong) (c.in_ok-listed.ensures ∙ ap (miswritten c.args.metamodel) c.as_slice.ensures) c.in_ok-wrong.ensures in
+    made_valid c.args.metamodel c.args.next c.args.objects c.args.roots c.in_ok-store.store c.in_ok-store.ensures c.is_kept.ensures.0 c.is_kept.ensures.1 c.in_ok-wrong.wrong wrong c.requires.few c.in-Ok.ensures
 
 pub returns-in-Ok-clause-accepted : goal.returns-in-Ok-clause-accepted
 returns-in-Ok-clause-accepted c =
-    let wrong = c.as_slice-2.ensures.value ∙ c.in_ok-wrong.ensures ∙ ap (miswritten c.args.metamodel) c.as_slice.ensures in
-    made_model c.args.metamodel c.args.next c.args.objects c.args.roots c.in_ok-store.store c.in_ok-store.ensures c.is_kept.ensures.0 c.is_kept.ensures.1 c.as_slice-2.result.now wrong c.requires.few c.in-Ok.ensures
+    let wrong = subst (λ ws. IsPermutation ws c.in_ok-wrong.wrong) (c.in_ok-listed.ensures ∙ ap (miswritten c.args.metamodel) c.as_slice.ensures) c.in_ok-wrong.ensures in
+    made_model c.args.metamodel c.args.next c.args.objects c.args.roots c.in_ok-store.store c.in_ok-store.ensures c.is_kept.ensures.0 c.is_kept.ensures.1 c.in_ok-wrong.wrong wrong c.requires.few c.in-Ok.ensures
 
 pub returns-clause-refused : goal.returns-clause-refused
 returns-clause-refused c =
-    let wrong = c.as_slice-2.ensures.value ∙ c.in_ok-wrong.ensures ∙ ap (miswritten c.args.metamodel) c.as_slice.ensures in
+    let wrong = subst (λ ws. IsPermutation ws c.in_ok-wrong.wrong) (c.in_ok-listed.ensures ∙ ap (miswritten c.args.metamodel) c.as_slice.ensures) c.in_ok-wrong.ensures in
     subst (λ (r : BuildRefusal). Refutes r (MakeModel c.args.metamodel c.args.next c.args.objects c.args.roots)) (sym c.refusal_of.ensures)
-    (refutes c.in-Err.flaw (broken c.in_ok-store.store c.as_slice-2.result.now) (MakeModel c.args.metamodel c.args.next c.args.objects c.args.roots)
-    (model_whole c.args.metamodel c.args.next c.args.objects c.args.roots c.in_ok-store.store c.in_ok-store.ensures c.is_kept.ensures.0 c.is_kept.ensures.1 c.as_slice-2.result.now wrong) c.in-Err.ensures)
+    (refutes c.in-Err.flaw (broken c.in_ok-store.store c.in_ok-wrong.wrong) (MakeModel c.args.metamodel c.args.next c.args.objects c.args.roots)
+    (model_whole c.args.metamodel c.args.next c.args.objects c.args.roots c.in_ok-store.store c.in_ok-store.ensures c.is_kept.ensures.0 c.is_kept.ensures.1 c.in_ok-wrong.wrong wrong) c.in-Err.ensures)

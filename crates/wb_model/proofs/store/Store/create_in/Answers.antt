@@ -7,10 +7,11 @@ use Rattle.wb_model.specs.Contents.{Contents}
 use Rattle.wb_model.specs.Edits.{link}
 use Rattle.wb_model.specs.LinkSteps.{without_link, back_slots}
 use Rattle.wb_model.specs.Records.{is_known_slot}
-use Rattle.wb_model.proofs.Comings.{metamodel-relink, known_after, put_drop}
-use Rattle.wb_model.proofs.Creating.{live_after, kind_linked, next-relink, back_known, next_stands_nowhere, created_in}
+use Rattle.wb_model.proofs.Comings.{known_after, put_drop}
+use Rattle.wb_model.proofs.Creating.{live_after, kind_linked, back_known, next_stands_nowhere, created_in}
 use Rattle.wb_model.proofs.RecordLemmas.{on_ok, on_err, err_at}
 use Rattle.wb_model.proofs.store.Store.create_in.Goals as goal
+use Rattle.wb_model.proofs.Relinked.{metamodel-relink, next-relink}
 
 pub push_object-pushed-requires-clause-class : goal.push_object-pushed-requires-clause-class
 push_object-pushed-requires-clause-class c =

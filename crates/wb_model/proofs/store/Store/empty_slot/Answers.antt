@@ -5,10 +5,11 @@ use Rattle.wb_model.specs.declared.scalars.Scalar.{Scalar}
 use Rattle.wb_model.specs.Contents.{Contents}
 use Rattle.wb_model.specs.Edits.{is_at}
 use Rattle.wb_model.specs.LinkSteps.{each_left, without_slot}
-use Rattle.wb_model.proofs.Comings.{metamodel-relink, sound_valid}
 use Rattle.wb_model.proofs.EditSteps.{emptied-both}
 use Rattle.wb_model.proofs.OtherEnds.{ends_of}
 use Rattle.wb_model.proofs.store.Store.empty_slot.Goals as goal
+use Rattle.wb_model.proofs.Relinked.{metamodel-relink}
+use Rattle.wb_model.proofs.KeptLinks.{sound}
 
 pub drop_other_ends-requires : goal.drop_other_ends-requires
 drop_other_ends-requires c =
@@ -25,4 +26,4 @@ returns c =
     ∙ ap (λ (vs : List Scalar). each_left (ends_of c.take_values-values.new.self.metamodel o f vs) c.take_values-values.new.self) values
     ∙ (λ i. each_left (ends_of (c.take_values-values.ensures.left i).metamodel o f (Rattle.wb_model.specs.Contents.slot m o f)) (c.take_values-values.ensures.left i))
     ∙ ap (λ (metamodel : Metamodel). each_left (ends_of metamodel o f (Rattle.wb_model.specs.Contents.slot m o f)) (without_slot o f m)) (metamodel-relink (is_at o f) [] m)
-    ∙ sym (emptied-both m well (sound_valid m c.requires.valid) o f)
+    ∙ sym (emptied-both m well (sound m c.requires.valid) o f)

@@ -1,8 +1,10 @@
 use Rattle.std.proofs.Common.{◌≡◌, ◌∙◌, ap, subst}
 use Rattle.wb_metamodel.specs.WellFormed.{WellFormed}
 use Rattle.wb_model.specs.Contents.{Contents}
-use Rattle.wb_model.proofs.Comings.{metamodel-relink, sound_valid, known_after, both_steps, up_both}
+use Rattle.wb_model.proofs.Comings.{known_after, both_steps, up_both}
 use Rattle.wb_model.proofs.store.Store.link_both.Goals as goal
+use Rattle.wb_model.proofs.Relinked.{metamodel-relink}
+use Rattle.wb_model.proofs.KeptLinks.{sound}
 
 pub unlink_given-requires : goal.unlink_given-requires
 unlink_given-requires c =
@@ -21,4 +23,4 @@ returns-clause-ok c =
     both_steps m c.put_ends.new.self c.unlink_given.new.self c.unlink_given-2.new.self c.args.o c.args.f c.args.p c.args.g
     c.gives_place-first.result c.gives_place-second.result c.gives_place-first.ensures c.gives_place-second.ensures
     c.in_ok-put_ends.ensures.ok c.unlink_given.ensures c.unlink_given-2.ensures
-    ∙ up_both m well (sound_valid m c.requires.valid) c.args.o c.args.f c.args.p c.args.g c.requires.opposed c.requires.fresh
+    ∙ up_both m well (sound m c.requires.valid) c.args.o c.args.f c.args.p c.args.g c.requires.opposed c.requires.fresh

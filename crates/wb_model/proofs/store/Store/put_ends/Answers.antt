@@ -4,9 +4,10 @@ use Rattle.wb_model.specs.declared.scalars.Scalar.TheVariants.{Object}
 use Rattle.wb_model.specs.Contents.{Contents}
 use Rattle.wb_model.specs.Edits.{link, other_end}
 use Rattle.wb_model.specs.LinkSteps.{with_link, without_link}
-use Rattle.wb_model.proofs.Comings.{metamodel-relink, known_after, known_in, live_end, end_is, put_two, put_drop}
+use Rattle.wb_model.proofs.Comings.{known_after, known_in, live_end, end_is, put_two, put_drop}
 use Rattle.wb_model.proofs.RecordLemmas.{on_ok, on_err}
 use Rattle.wb_model.proofs.store.Store.put_ends.Goals as goal
+use Rattle.wb_model.proofs.Relinked.{metamodel-relink}
 
 pub put_back-requires-clause-to : goal.put_back-requires-clause-to
 put_back-requires-clause-to c =

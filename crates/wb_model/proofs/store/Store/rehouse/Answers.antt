@@ -3,11 +3,12 @@ use Rattle.wb_metamodel.specs.WellFormed.{WellFormed}
 use Rattle.wb_model.specs.declared.scalars.Scalar.TheVariants.{Object}
 use Rattle.wb_model.specs.Contents.{Contents}
 use Rattle.wb_model.specs.Edits.{link, unlink, without_root}
-use Rattle.wb_model.proofs.Comings.{metamodel-relink, known_after}
+use Rattle.wb_model.proofs.Comings.{known_after}
 use Rattle.wb_model.proofs.MoveSteps.{holder-some, holder-none}
 use Rattle.wb_model.proofs.Moving.{containment_known, rehoused_held, rehoused_root}
 use Rattle.wb_model.proofs.Sound.{contains-parts}
 use Rattle.wb_model.proofs.store.Store.rehouse.Goals as goal
+use Rattle.wb_model.proofs.Relinked.{metamodel-relink}
 
 pub unlink-requires : goal.unlink-requires
 unlink-requires c =

@@ -4,8 +4,9 @@ use Rattle.wb_metamodel.specs.WellFormed.{WellFormed}
 use Rattle.wb_model.specs.Contents.{Contents}
 use Rattle.wb_model.specs.Edits.{link, other_end, same_link}
 use Rattle.wb_model.specs.LinkSteps.{each_left, without_link}
-use Rattle.wb_model.proofs.Comings.{metamodel-relink, unlink_steps}
+use Rattle.wb_model.proofs.Comings.{unlink_steps}
 use Rattle.wb_model.proofs.store.Store.unlink.Goals as goal
+use Rattle.wb_model.proofs.Relinked.{metamodel-relink}
 
 pub drop_other_end-requires : goal.drop_other_end-requires
 drop_other_end-requires c =

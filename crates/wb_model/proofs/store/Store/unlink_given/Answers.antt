@@ -1,10 +1,10 @@
 use Rattle.std.proofs.Common.{◌≡◌, ◌∙◌, ap, sym, []}
 use Rattle.wb_model.specs.Edits.{relink}
 use Rattle.wb_model.specs.LinkSteps.{is_given}
-use Rattle.wb_model.proofs.EditSteps.{relink-none}
 use Rattle.wb_model.proofs.store.Store.unlink_given.Goals as goal
+use Rattle.wb_model.proofs.Relinks.{relink_none}
 
 pub returns-in_default : goal.returns-in_default
 returns-in_default c =
     let m = c.args.self.now in
-    sym (ap (λ r. relink (is_given m.metamodel c.args.o c.args.f r) [] m) c.in_default.is ∙ relink-none m)
+    sym (ap (λ r. relink (is_given m.metamodel c.args.o c.args.f r) [] m) c.in_default.is ∙ relink_none m)
