@@ -1,4 +1,6 @@
+pub mod ByName
 pub mod ModelFile
 pub mod ModelText
 pub mod Refusals
+pub mod Sayable
 pub mod Written

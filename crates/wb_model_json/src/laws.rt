@@ -1,0 +1,27 @@
+//! What is true of texts of models. These functions change nothing when they run.
+
+ghost use Rattle.std.specs.Prelude.{◌≡◌, Ok};
+ghost use Rattle.wb_metamodel.specs.WellFormed.{WellFormed};
+ghost use Rattle.wb_model.specs.Contents.{Contents};
+ghost use Rattle.wb_model.specs.Valid.{IsValid};
+ghost use Rattle.wb_model_json.specs.ModelFile as file;
+ghost use Rattle.wb_model_json.specs.Sayable.{IsSayable};
+ghost use Rattle.wb_model_json.specs.Written.{text_of};
+
+use crate::sayable::values_are_sayable;
+use wb_model::Model;
+
+/// The text of a model is read again as an equal model.
+pub fn texts_of_models_are_read_again()
+    ensures { (m : Contents) → WellFormed m.metamodel → IsValid m → IsSayable m → file.model m.metamodel (text_of m) ≡ Ok m }
+{}
+
+/// What is written of a model is read again as an equal model. It looks at each value of the model.
+pub fn written_models_are_read_again(model: &Model)
+    ensures { file.model model.now.metamodel (text_of model.now) ≡ Ok model.now }
+{
+    model.valid();
+    model.metamodel().well_formed();
+    values_are_sayable(model);
+    texts_of_models_are_read_again();
+}
