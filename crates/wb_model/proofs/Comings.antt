@@ -1,7 +1,6 @@
 -- The steps of the code are the edits: links that leave at both ends, and a link that comes before what gives way leaves.
 use Rattle.std.proofs.Common.{◌≡◌, ℕ, ◌<◌, ◌≤◌, Bool, true, false, not, ◌&&◌, ◌||◌, List, [], ◌∷◌, ◌++◌, length, Option, Some, None, refl, sym, ap, subst, ◌∙◌, cond, arith, ◌⊎◌, inl, inr, ⊎_elim, append-nil}
 use Rattle.std.proofs.lemmas.Bool.{false≢true}
-use Rattle.std.proofs.lemmas.Option.{none-some}
 use Rattle.std.specs.Prelude.{filter, IsSome}
 use Rattle.std.specs.Option.{option_map_or}
 use Rattle.std.specs.List.{list_any, flat_map}
@@ -16,14 +15,13 @@ use Rattle.wb_model.specs.Valid.{opposite, is_many, is_of_feature, is_of_kind}
 use Rattle.wb_model.specs.Edits.{Link, link, relink, other_end, both_ends, change, is_at, same_link, gives_way, unlink, emptied, stands, link_up}
 use Rattle.wb_model.specs.LinkSteps.{with_link, with_only, without_link, each_left, with_ends, is_given, first_object, gives_place}
 use Rattle.wb_model.proofs.Changed.{both-same}
-use Rattle.wb_model.proofs.Ends.{Opposed, Opposites, opposites, other_end-is, other_end-In, other_end-cases, In-other_end, In-both_ends, ends-this, ends-that, ends-cases, opposed-unique, opposed-back}
-use Rattle.wb_model.proofs.EditSteps.{relink-relink, relink-agree, unlink-alone, unlink-both, emptied-both, same_link-is, same_link-itself, linked-alone, emptied-alone, way-both, clears, come-alone, come-both}
+use Rattle.wb_model.proofs.Ends.{Opposed, Opposites, opposites, other_end-is, other_end-In, other_end-cases, In-both_ends, opposed-unique, opposed-back}
+use Rattle.wb_model.proofs.EditSteps.{relink-relink, relink-agree, unlink-alone, unlink-both, same_link-is, same_link-itself, linked-alone, emptied-alone, way-both, clears, come-alone, come-both}
 use Rattle.wb_model.proofs.LinkLemmas.{any_found, to_false}
 use Rattle.wb_model.proofs.Members.{In, any_In}
 use Rattle.wb_model.proofs.Members.In.{here, there}
 use Rattle.wb_model.proofs.Relinked.{values_at, is_at-link, is_at-itself, kind-relink, metamodel-relink, none-any}
-use Rattle.wb_model.proofs.Sound.{Stands, Sound, absent, stands-In, In-stands}
-use Rattle.wb_model.proofs.KeptLinks.{sound}
+use Rattle.wb_model.proofs.Sound.{Stands, Sound, absent}
 use Rattle.wb_model.proofs.Relinks.{relink_none}
 
 -- ---- what a step leaves as it is

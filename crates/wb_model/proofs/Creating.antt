@@ -1,5 +1,5 @@
 -- A new object as the code makes it: its place is taken first, and then the object comes.
-use Rattle.std.proofs.Common.{◌≡◌, ℕ, ◌<◌, ◌^◌, true, false, not, ◌&&◌, List, [], ◌∷◌, ◌++◌, length, Option, Some, None, refl, sym, ap, subst, ◌∙◌, cond, ltb, leb, eqb, arith, suc, append-nil}
+use Rattle.std.proofs.Common.{◌≡◌, ℕ, ◌<◌, ◌^◌, true, false, not, ◌&&◌, List, [], ◌∷◌, ◌++◌, length, Option, Some, None, refl, sym, ap, subst, ◌∙◌, cond, ltb, leb, eqb, arith, suc}
 use Rattle.std.proofs.lemmas.Bool.{and_parts, and_from, false≢true, eqb-true, lt-ltb, ltb-true, eq-eqb}
 use Rattle.std.proofs.lemmas.Bool.Decides.{nat_tests}
 use Rattle.std.proofs.lemmas.Option.{slice_get_within}
@@ -12,7 +12,7 @@ use Rattle.wb_metamodel.specs.WellFormed.{WellFormed}
 use Rattle.wb_model.specs.declared.scalars.Scalar.TheVariants.{Object}
 use Rattle.wb_model.specs.declared.scalars.Place.TheVariants.{Root, In as Inside}
 use Rattle.wb_model.specs.declared.records.Slot.{Slot}
-use Rattle.wb_model.specs.Contents.{Contents, kind, slot, is_containment, contains}
+use Rattle.wb_model.specs.Contents.{Contents, kind, slot, is_containment}
 use Rattle.wb_model.specs.Places.{rises}
 use Rattle.wb_model.specs.Records.{values_in, is_known_slot, feature_of}
 use Rattle.wb_model.specs.Valid.{IsValid, opposite}

@@ -1,13 +1,13 @@
 -- What an edit's answer says: a refusal that is told, want of memory, or the model of the definition.
-use Rattle.std.proofs.Common.{◌≡◌, ℕ, Bool, true, false, Option, Some, None, Result, Ok, Err, refl, sym, ap, subst, ◌∙◌, ◌&&◌, List, [], ◌∷◌, ◌++◌}
-use Rattle.std.proofs.lemmas.Bool.{and_parts, false≢true}
+use Rattle.std.proofs.Common.{◌≡◌, ℕ, Bool, true, false, Option, Some, None, Result, Ok, Err, refl, sym, ap, subst, ◌∙◌, List, [], ◌∷◌, ◌++◌}
+use Rattle.std.proofs.lemmas.Bool.{and_parts}
 use Rattle.std.specs.Prelude.{IsSome, is_some}
 use Rattle.std.specs.Result.{IsErrAnd}
 use Rattle.wb_model.specs.declared.refusals.ModelRefusal.{ModelRefusal}
 use Rattle.wb_model.specs.declared.refusals.ModelRefusal.TheVariants.{UnknownObject, KindMismatch, UpperBound, ContainmentCycle, AbstractClass, TooManyObjects, IdsSpent, NoMemory}
 use Rattle.wb_model.specs.Contents.{Contents, kind}
 use Rattle.wb_model.specs.Valid.{IsValid, is_of_feature}
-use Rattle.wb_model.specs.Edits.{Link, link, unless, Edited, first_refusal, is_live, is_known_value, is_plain_feature, refusal_of_link}
+use Rattle.wb_model.specs.Edits.{Link, unless, Edited, first_refusal, is_live, is_known_value, is_plain_feature, refusal_of_link}
 use Rattle.wb_model.specs.EditChecks.{Tells}
 use Rattle.wb_model.proofs.KeptLinks.{link-accepted}
 

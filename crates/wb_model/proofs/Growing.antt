@@ -1,6 +1,6 @@
 -- One more object at the end of the list in which objects are kept.
-use Rattle.std.proofs.Common.{◌≡◌, ◌≢◌, ℕ, ◌<◌, Bool, true, false, ◌&&◌, List, [], ◌∷◌, ◌++◌, length, map, Option, Some, None, refl, sym, ap, subst, ◌∙◌, cond, ltb, eqb, arith, suc}
-use Rattle.std.proofs.lemmas.Bool.{and_parts, and_from, false≢true, eqb-true, lt-ltb}
+use Rattle.std.proofs.Common.{◌≡◌, ℕ, ◌<◌, Bool, true, false, List, [], ◌∷◌, ◌++◌, length, map, Option, Some, None, refl, sym, ap, subst, ◌∙◌, cond, ltb, eqb, arith, suc}
+use Rattle.std.proofs.lemmas.Bool.{and_parts, and_from, eqb-true, lt-ltb}
 use Rattle.std.proofs.lemmas.Bool.Decides.{nat_tests}
 use Rattle.std.proofs.lemmas.Cmp.{nat_cmp_total}
 use Rattle.std.proofs.lemmas.List.{map-append}
@@ -12,7 +12,7 @@ use Rattle.std.specs.FinMap.{find, from_entries, from_entries_push, nat_cmp-IsAn
 use Rattle.wb_metamodel.specs.Metamodel.{Metamodel}
 use Rattle.wb_model.specs.declared.records.Record.{Record}
 use Rattle.wb_model.specs.declared.records.Slot.{Slot}
-use Rattle.wb_model.specs.Contents.{Contents, kind, slot}
+use Rattle.wb_model.specs.Contents.{Contents, kind}
 use Rattle.wb_model.specs.Places.{rises, numbered}
 use Rattle.wb_model.specs.Records.{id_of, feature_of, values_in, is_known, is_known_slot, kind_entry, contents_of, IsPlain}
 use Rattle.wb_model.specs.LinkSteps.{Grows}

@@ -30,7 +30,7 @@ use Rattle.wb_model.specs.ValidTest.{holders, is_within}
 use Rattle.wb_model.proofs.Breaches.{slots_meet_kept}
 use Rattle.wb_model.proofs.Findings.{nothing_shown}
 use Rattle.wb_model.proofs.Found.{is_itself}
-use Rattle.wb_model.proofs.LinkLemmas.{container_place, live_at, at_most_one}
+use Rattle.wb_model.proofs.LinkLemmas.{container_place, live_at, at_most_one as one_at_most}
 use Rattle.wb_model.proofs.Maps.{kind-numbered}
 use Rattle.wb_model.proofs.Members.{In, In-all, In-map, map-In, all_In, any_In, find-In, flat_map-In, Contains-In}
 use Rattle.wb_model.proofs.Members.In.{here, there}
@@ -165,7 +165,7 @@ module _ (m : Contents) (rs : List Record) (kept : Kept m rs) where
         (passed_by_none 6 _ (λ o c i. meets_all_slots Differ v.values_differ o))
         (passed_by_none 7 _ (λ o c i. meets_all_slots HeldBack v.opposites_agree o))))
         (neither _ _
-        (passed_by_none 8 _ (λ o c i. at_most_one _ (In-all (λ (e : ℕ × ℕ). leb (length (holders m e.0)) 1) (entries m.kinds) (o, c) ((contained_once-decided m).1 v.are_contained_once) i)))
+        (passed_by_none 8 _ (λ o c i. one_at_most _ (In-all (λ (e : ℕ × ℕ). leb (length (holders m e.0)) 1) (entries m.kinds) (o, c) ((contained_once-decided m).1 v.are_contained_once) i)))
         (neither _ _
         (passed_by_none 9 _ (λ o c i. false_from_ne_true _ (λ h. v.none_is_within_itself o ((is_within-decides m o o).0 h))))
         (ap (unless 10) ((roots-decided m).1 v.roots_are_uncontained)))))
@@ -305,10 +305,14 @@ module _ (metamodel : Metamodel) (next : ℕ) (parts : List Part) (roots : List 
       sym (broken-permuted _ _ are_wrong s)
       ∙ broken_none s rs kept (miswritten metamodel parts) (subst IsValid (sym same) make.valid) (none_miswritten metamodel parts make.listed)
 
+  -- the breach is that of the parts
+  pub same_breach : broken (made_of metamodel next parts roots) (miswritten metamodel parts) ≡ broken s wrong
+  same_breach = ap (λ (m : Contents). broken m (miswritten metamodel parts)) (sym same) ∙ broken-permuted _ _ are_wrong s
+
 -- ---- refusals
 
 -- a building that is refused names the breach that a check finds
-pub names : {A : Type 0} (flaw : Flaw) (found breach : Option Breach) → breach ≡ found → Finds (Err flaw) found → Names {A} (Err (refusal_of flaw)) breach
+pub names : (flaw : Flaw) (found breach : Option Breach) → breach ≡ found → Finds (Err flaw) found → Names {A = Contents} (Err (refusal_of flaw)) breach
 names (At number object) found breach e h = e ∙ h
 names (Whole number) found breach e h = e ∙ h
 names NoMemory found breach e h = tt

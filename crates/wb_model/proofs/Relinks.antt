@@ -1,5 +1,5 @@
 -- Steps of one link: what they make of the contents that a list of objects shows, and several of them together.
-use Rattle.std.proofs.Common.{◌≡◌, ℕ, ◌<◌, Bool, true, false, not, ◌&&◌, ◌||◌, List, [], ◌∷◌, ◌++◌, length, Option, Some, None, refl, sym, ap, subst, ◌∙◌, cond, eqb, arith, append-nil}
+use Rattle.std.proofs.Common.{◌≡◌, ℕ, ◌<◌, Bool, true, false, not, ◌&&◌, List, [], ◌∷◌, ◌++◌, length, Option, Some, None, refl, sym, ap, subst, ◌∙◌, cond, eqb, arith, append-nil}
 use Rattle.std.proofs.lemmas.Bool.{eqb-true, and_parts}
 use Rattle.std.proofs.lemmas.Bool.Decides.{nat_tests}
 use Rattle.std.specs.Prelude.{filter, IsSome}
@@ -16,7 +16,7 @@ use Rattle.wb_model.specs.Slots.{held_at, RecordsChange}
 use Rattle.wb_model.specs.Edits.{Link, link, relink, is_at, same_link}
 use Rattle.wb_model.specs.LinkSteps.{with_link, with_only, without_link, without_slot}
 use Rattle.wb_model.proofs.Maps.{slot-numbered, kind-numbered}
-use Rattle.wb_model.proofs.Relinked.{values_at, values_at-append, values_at-filter, slot-relink, same_contents}
+use Rattle.wb_model.proofs.Relinked.{values_at, slot-relink, same_contents}
 
 -- ---- filters
 

@@ -7,11 +7,11 @@ use Rattle.std.specs.List.{list_all}
 use Rattle.wb_metamodel.specs.Metamodel.{Metamodel}
 use Rattle.wb_model.specs.declared.records.Record.{Record}
 use Rattle.wb_model.specs.declared.records.Slot.{Slot}
-use Rattle.wb_model.specs.Contents.{Contents, kind, slot}
+use Rattle.wb_model.specs.Contents.{Contents}
 use Rattle.wb_model.specs.Places.{rises, numbered}
 use Rattle.wb_model.specs.Records.{id_of, feature_of, values_in, is_known, is_known_slot, contents_of, IsPlain}
 use Rattle.wb_model.specs.Removals.{values_left, slot_left, record_left, stays}
-use Rattle.wb_model.specs.Edits.{relink, touches, is_among, without}
+use Rattle.wb_model.specs.Edits.{touches, is_among, without}
 use Rattle.wb_model.proofs.KeptRemoved.{kind-without, slot-without}
 use Rattle.wb_model.proofs.Maps.{kind-numbered, slot-numbered}
 use Rattle.wb_model.proofs.Relinked.{same_contents, metamodel-relink, next-relink}

@@ -1,5 +1,5 @@
 -- Objects of which some are marked, by place.
-use Rattle.std.specs.Prelude.{◌≡◌, ℕ, Bool, if◌then◌else◌, List, [], ◌∷◌, Option, Some, None}
+use Rattle.std.specs.Prelude.{ℕ, Bool, if◌then◌else◌, List, ◌∷◌, Option, Some, None}
 use Rattle.wb_model.specs.declared.records.Record.{Record}
 
 abbrev pub first_marked : List Record → List Bool → Option ℕ

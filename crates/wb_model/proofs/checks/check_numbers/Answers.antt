@@ -1,4 +1,4 @@
-use Rattle.std.proofs.Common.{◌≡◌, ◌<◌, ◌∙◌, sym, ap, subst, Some, None, ℕ, true, false, ◌&&◌, ltb, cond, ◌^◌, arith, refl}
+use Rattle.std.proofs.Common.{◌≡◌, ◌<◌, ◌∙◌, sym, ap, subst, Some, None, false, ◌&&◌, ltb, cond, ◌^◌, arith, refl}
 use Rattle.std.proofs.lemmas.Bool.{and_from, lt-ltb}
 use Rattle.std.specs.Option.{option_or}
 use Rattle.wb_model.specs.Broken.{shown_by, least, is_misnumbered, broken_number}

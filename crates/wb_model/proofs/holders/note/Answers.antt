@@ -1,4 +1,4 @@
-use Rattle.std.proofs.Common.{◌≡◌, ◌<◌, Some, sym, ap, ◌∙◌, length, arith, refl}
+use Rattle.std.proofs.Common.{◌<◌, Some, sym, ap, ◌∙◌, length, arith, refl}
 use Rattle.std.proofs.lemmas.Bool.{false≢true}
 use Rattle.std.proofs.lemmas.Option.{slice_get_read}
 use Rattle.wb_model.specs.Links.Notes.{dead, fresh, again, clash}

@@ -1,4 +1,4 @@
-use Rattle.std.proofs.Common.{◌≡◌, ◌<◌, ◌∙◌, arith, length, set}
+use Rattle.std.proofs.Common.{◌<◌, ◌∙◌, arith, length, set}
 use Rattle.std.proofs.lemmas.List.Edits.{map_over_more}
 use Rattle.wb_model.specs.Removals.{slot_left}
 use Rattle.wb_model.proofs.removals.drop_from_each.Goals as goal

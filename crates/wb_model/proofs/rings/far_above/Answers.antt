@@ -1,4 +1,4 @@
-use Rattle.std.proofs.Common.{◌≡◌, List, Option, ℕ, ◌∙◌, ap, map, arith}
+use Rattle.std.proofs.Common.{List, Option, ℕ, ◌∙◌, ap, map, arith}
 use Rattle.wb_model.specs.Rings.{beyond}
 use Rattle.wb_model.proofs.LinkLemmas.{contained_once}
 use Rattle.wb_model.proofs.RingLemmas.{far_twice}

@@ -1,4 +1,4 @@
-use Rattle.std.proofs.Common.{◌≡◌, ◌∙◌, ap, subst, List, ℕ, Option}
+use Rattle.std.proofs.Common.{◌∙◌, ap, subst, List, ℕ, Option}
 use Rattle.wb_model.specs.Marks.{first_marked}
 use Rattle.wb_model.specs.Rings.{AreMet}
 use Rattle.wb_model.specs.ValidTest.{is_within}

@@ -1,4 +1,4 @@
-use Rattle.std.proofs.Common.{◌≡◌, ◌∙◌, ap, sym, subst, not, List, []}
+use Rattle.std.proofs.Common.{◌∙◌, ap, sym, subst, not, List}
 use Rattle.std.specs.Prelude.{filter, Some, None}
 use Rattle.wb_model.specs.declared.scalars.Scalar.{Scalar}
 use Rattle.wb_model.specs.declared.records.Slot.{Slot}

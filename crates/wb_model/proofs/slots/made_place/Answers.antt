@@ -1,4 +1,4 @@
-use Rattle.std.proofs.Common.{◌≡◌, ◌∙◌, refl, sym, subst, List, [], Err}
+use Rattle.std.proofs.Common.{◌∙◌, refl, sym, subst, List}
 use Rattle.wb_model.specs.declared.records.Slot.{Slot}
 use Rattle.wb_model.specs.Records.{feature_of, values_in}
 use Rattle.wb_model.specs.Slots.{IsGapFor, SlotsChange}

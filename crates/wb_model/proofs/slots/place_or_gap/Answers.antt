@@ -1,4 +1,4 @@
-use Rattle.std.proofs.Common.{◌≡◌, ℕ, ◌≤◌, subst, rules}
+use Rattle.std.proofs.Common.{subst, rules}
 use Rattle.std.proofs.lemmas.List.Sorted.{answers_always}
 use Rattle.wb_model.specs.Records.{feature_of}
 use Rattle.wb_model.specs.Slots.{IsPlaceOrGap}

@@ -1,4 +1,4 @@
-use Rattle.std.proofs.Common.{◌≡◌, ◌∙◌, ◌++◌, ◌∷◌, [], ap, sym, subst, List}
+use Rattle.std.proofs.Common.{◌∙◌, ap, sym, subst, List}
 use Rattle.std.specs.Prelude.{Some, None, filter, not}
 use Rattle.wb_model.specs.declared.scalars.Scalar.{Scalar}
 use Rattle.wb_model.specs.declared.records.Record.{Record}

@@ -1,4 +1,4 @@
-use Rattle.std.proofs.Common.{◌≡◌, ◌∙◌, ◌++◌, ◌∷◌, [], subst, List}
+use Rattle.std.proofs.Common.{◌∙◌, subst, List}
 use Rattle.std.specs.Prelude.{Some, None}
 use Rattle.wb_model.specs.declared.records.Record.{Record}
 use Rattle.wb_model.specs.Places.{IsPlaceOf}

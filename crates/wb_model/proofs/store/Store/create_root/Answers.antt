@@ -1,4 +1,4 @@
-use Rattle.std.proofs.Common.{◌≡◌, ◌∙◌, ap}
+use Rattle.std.proofs.Common.{◌∙◌, ap}
 use Rattle.wb_model.specs.Contents.{Contents, kind}
 use Rattle.wb_model.specs.Edits.{without_root}
 use Rattle.wb_model.proofs.Creating.{live_after, root_undone, created_root}

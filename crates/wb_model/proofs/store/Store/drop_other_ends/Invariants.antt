@@ -1,4 +1,3 @@
-use Rattle.std.proofs.Common.{◌≡◌}
 use Rattle.wb_model.proofs.OtherEnds.{EndsLeave}
 use Rattle.wb_model.proofs.store.Store.drop_other_ends.Given as goal
 

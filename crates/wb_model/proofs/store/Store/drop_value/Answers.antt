@@ -1,4 +1,4 @@
-use Rattle.std.proofs.Common.{◌∙◌, ◌≡◌, ap}
+use Rattle.std.proofs.Common.{◌∙◌, ap}
 use Rattle.wb_model.specs.Contents.{Contents}
 use Rattle.wb_model.specs.Edits.{link}
 use Rattle.wb_model.specs.LinkSteps.{without_link}

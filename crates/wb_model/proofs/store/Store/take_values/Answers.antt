@@ -1,4 +1,4 @@
-use Rattle.std.proofs.Common.{◌∙◌, ◌≡◌, ap}
+use Rattle.std.proofs.Common.{◌∙◌, ap}
 use Rattle.wb_model.specs.Contents.{Contents, slot}
 use Rattle.wb_model.specs.LinkSteps.{without_slot}
 use Rattle.wb_model.proofs.Relinks.{empty_shown, held_is, known_inside}

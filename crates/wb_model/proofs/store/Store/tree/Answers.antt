@@ -1,4 +1,4 @@
-use Rattle.std.proofs.Common.{◌≡◌, ◌∙◌, ap, sym, List, ℕ, ◌++◌, [], reverse, length, arith}
+use Rattle.std.proofs.Common.{◌≡◌, ◌∙◌, ap, sym, List, ℕ, ◌++◌, reverse, length, arith}
 use Rattle.std.proofs.lemmas.List.{append-nil, nil_from_length}
 use Rattle.wb_model.proofs.Trees.{trees, walk_begins, walk_smaller, walk_goes_on}
 use Rattle.wb_model.proofs.store.Store.tree.Goals as goal

@@ -1,4 +1,4 @@
-use Rattle.std.proofs.Common.{◌≡◌, ◌∙◌, ap, sym, []}
+use Rattle.std.proofs.Common.{◌∙◌, ap, sym, []}
 use Rattle.wb_model.specs.Edits.{relink}
 use Rattle.wb_model.specs.LinkSteps.{is_given}
 use Rattle.wb_model.proofs.store.Store.unlink_given.Goals as goal

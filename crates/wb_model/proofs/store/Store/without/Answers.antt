@@ -1,4 +1,4 @@
-use Rattle.std.proofs.Common.{◌≡◌, ◌∙◌, ap, sym, subst, map, List}
+use Rattle.std.proofs.Common.{◌∙◌, ap, sym, subst, map, List}
 use Rattle.wb_model.specs.declared.records.Record.{Record}
 use Rattle.wb_model.specs.Records.{contents_of, IsPlain}
 use Rattle.wb_model.specs.Removals.{record_left}
