@@ -22,13 +22,17 @@ metamodel_due name files = taken name (files name) >>= (λ bytes. or_not_built (
 unfoldable pub viewpoint_due : Metamodel → List ℕ → Files → Due Viewpoint
 viewpoint_due mm name files = taken name (files name) >>= (λ bytes. or_not_built (thin_viewpoint mm bytes))
 
--- a model of at most 1,000 objects
-abbrev pub of_few_objects : Contents → Option Contents
-of_few_objects m = if nat_le (len m.kinds) 1000 then Some m else None
+-- the model, where it has at most 1,000 objects
+abbrev pub if_few : Contents → Option Contents
+if_few m = if nat_le (len m.kinds) 1000 then Some m else None
 
--- the valid model that a text is over a metamodel, where it has at most 1,048,576 bytes and gives few objects
+-- the valid model that a text is over a metamodel, where its objects are few
+unfoldable pub small_model : Metamodel → List ℕ → Option Contents
+small_model mm bytes = option_and_then if_few (result_ok (model mm bytes))
+
+-- the same, where the text has at most 1,048,576 bytes
 unfoldable pub thin_model : Metamodel → List ℕ → Option Contents
-thin_model mm bytes = if nat_le (length bytes) 1048576 then option_and_then of_few_objects (result_ok (model mm bytes)) else None
+thin_model mm bytes = if nat_le (length bytes) 1048576 then small_model mm bytes else None
 
 unfoldable pub model_due : Metamodel → List ℕ → Files → Due Contents
 model_due mm name files = taken name (files name) >>= (λ bytes. or_not_built (thin_model mm bytes))

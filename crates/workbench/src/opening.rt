@@ -6,7 +6,7 @@ ghost use Rattle.workbench.specs.Refusal.{Finds};
 ghost use Rattle.workbench.specs.Viewpoint.{thin_viewpoint};
 ghost use Rattle.workbench.specs.Steps.{IsStep, Ends, Turns};
 ghost use Rattle.workbench.specs.Over.{IsOver};
-ghost use Rattle.workbench.specs.Opening.{metamodel_due, viewpoint_due, model_due, of_few_objects, thin_model};
+ghost use Rattle.workbench.specs.Opening.{metamodel_due, viewpoint_due, model_due, small_model, thin_model};
 
 use crate::answer::{Stop, not_built};
 use crate::files::take_file;
@@ -79,14 +79,27 @@ fn model_in(alloc: Global, metamodel: Metamodel, bytes: &Bytes) -> Result<Model,
     ensures over { IfOk result (λ model. model.metamodel ≡ metamodel) }
 {
     if bytes.as_slice().len() <= MAX_MODEL_BYTES {
-        let model = valid_model(alloc, metamodel, bytes.as_slice())?;
-        of_few_objects(model)
+        small_model(alloc, metamodel, bytes.as_slice())
     } else {
         Err(Refusal::NotThin)
     }
 }
 
-/// The model that these bytes are over the metamodel, if they are a valid one.
+/// The valid model that these bytes are over the metamodel, if its objects are few.
+#[tactic(auto, unfolding(crate::specs::Opening::small_model))]
+fn small_model(alloc: Global, metamodel: Metamodel, bytes: &[u8]) -> Result<Model, Refusal>
+    ensures found { Finds result (small_model metamodel bytes.now) }
+    ensures over { IfOk result (λ model. model.metamodel ≡ metamodel) }
+{
+    let model = valid_model(alloc, metamodel, bytes)?;
+    if model.len() <= MAX_OBJECTS {
+        Ok(model)
+    } else {
+        Err(Refusal::NotThin)
+    }
+}
+
+/// The valid model that these bytes are over the metamodel, if they are one.
 #[tactic(auto, using(crate::proofs::ReadModels::read_over))]
 fn valid_model(alloc: Global, metamodel: Metamodel, bytes: &[u8]) -> Result<Model, Refusal>
     ensures found { Finds result (result_ok (model metamodel bytes.now)) }
@@ -96,18 +109,6 @@ fn valid_model(alloc: Global, metamodel: Metamodel, bytes: &[u8]) -> Result<Mode
         Ok(model) => Ok(model),
         Err(ModelFileRefusal::At(..)) => Err(Refusal::NotThin),
         Err(ModelFileRefusal::NoMemory) => Err(Refusal::NoMemory),
-    }
-}
-
-/// The model, where its objects are few.
-fn of_few_objects(model: Model) -> Result<Model, Refusal>
-    ensures found { Finds result (of_few_objects model) }
-    ensures same { IfOk result (λ few. few ≡ model) }
-{
-    if model.len() <= MAX_OBJECTS {
-        Ok(model)
-    } else {
-        Err(Refusal::NotThin)
     }
 }
 
