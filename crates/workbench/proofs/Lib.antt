@@ -1,8 +1,5 @@
 pub mod FirstPlaces
-pub mod Found
 pub mod FoundSteps
-pub mod ModelParts
-pub mod NewNumbers
 pub mod OnTop
 pub mod OverMetamodels
 pub mod Prefixes
@@ -12,3 +9,4 @@ pub mod StepLemmas
 pub mod TakenFiles
 pub mod Decisions
 pub mod Endings
+pub mod ReadModels

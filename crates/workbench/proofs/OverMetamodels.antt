@@ -14,10 +14,6 @@ use Rattle.workbench.specs.Viewpoint.{mapping_for, fitting, mapping_named, top_f
 use Rattle.std.specs.Result.{result_ok}
 use Rattle.wb_json.specs.Json.{json_of}
 use Rattle.workbench.specs.ViewpointText.{viewpoint_of}
-use Rattle.std.proofs.Common.{nat_le}
-use Rattle.wb_model.specs.Contents.{Contents}
-use Rattle.workbench.specs.ModelText.{model_of}
-use Rattle.workbench.specs.ModelFile.{thin_model, model_in, model_for, contents_from, part_for, has_thin_objects}
 use Rattle.workbench.specs.Over.{IsOver}
 use Rattle.workbench.specs.Refusal.{Finds}
 use Rattle.workbench.specs.declared.refusal.Refusal.{Refusal}
@@ -95,18 +91,3 @@ turned P (Ok x) result turns h = subst (λ r. IfOk r P) (sym turns) h
 turned P (Err refusal.NotThin) (Ok x) turns h = absurd turns
 turned P (Err refusal.NotThin) (Err s) turns h = tt
 turned P (Err refusal.NoMemory) result turns h = subst (λ r. IfOk r P) (sym turns) tt
-
--- a model that was read over a metamodel has that metamodel
-kept : (mm : Metamodel) (bytes : List ℕ) (m : Contents) → thin_model mm bytes ≡ Some m → m.metamodel ≡ mm
-unfolding thin_model model_in model_for contents_from
-kept mm bytes m h =
-    let small = chosen (nat_le (length bytes) 1048576) (model_in mm bytes) m h in
-    let value = found_then (json_of bytes) (λ d. result_ok (model_of d) >>= (λ text. model_for mm text)) m small in
-    let text = found_then (result_ok (model_of value.0)) (λ text. model_for mm text) m value.2 in
-    let few = chosen (has_thin_objects text.0.objects) (each (part_for mm) text.0.objects >>= contents_from mm text.0) m text.2 in
-    let parts = found_then (each (part_for mm) text.0.objects) (contents_from mm text.0) m few in
-    sym (ap (λ (one : Contents). one.metamodel) (cond_some _ _ m parts.2).1)
-
-pub found_kept : (mm : Metamodel) (bytes : List ℕ) (found : Result Contents Refusal) → Finds found (thin_model mm bytes) → IfOk found (λ m. m.metamodel ≡ mm)
-found_kept mm bytes (Ok m) h = kept mm bytes m h
-found_kept mm bytes (Err refusal) h = tt

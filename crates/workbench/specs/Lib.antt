@@ -1,6 +1,4 @@
 pub mod Answers
-pub mod ModelFile
-pub mod ModelText
 pub mod Opening
 pub mod Over
 pub mod Picture

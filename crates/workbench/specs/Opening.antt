@@ -1,10 +1,12 @@
 -- The work of a run in its order: the metamodel is taken, sized and read, then the viewpoint, then the model;
 -- then the root element is found. The first failure ends it.
-use Rattle.std.specs.Prelude.{ℕ, List, Option, Some, None, option_map}
+use Rattle.std.specs.Prelude.{ℕ, nat_le, List, length, Option, Some, None, option_map, option_and_then, if◌then◌else◌}
+use Rattle.std.specs.FinMap.{len}
 use Rattle.std.specs.Result.{result_ok}
 use Rattle.wb_metamodel.specs.Metamodel.{Metamodel}
 use Rattle.wb_metamodel.specs.Checks.{metamodel}
 use Rattle.wb_model.specs.Contents.{Contents}
+use Rattle.wb_model_json.specs.ModelFile.{model}
 use Rattle.workbench.specs.declared.status.Status.TheVariants.{Done}
 use Rattle.workbench.specs.declared.answer.Answer.{Answer}
 use Rattle.workbench.specs.declared.viewpoint.Viewpoint.{Viewpoint}
@@ -12,7 +14,6 @@ use Rattle.workbench.specs.Words.{Sources, Task, draw, task_of}
 use Rattle.workbench.specs.Answers.{Due, ◌>>=◌, taken, or_not_built, not_built, settled, line}
 use Rattle.workbench.specs.Steps.{Files}
 use Rattle.workbench.specs.Viewpoint.{thin_viewpoint}
-use Rattle.workbench.specs.ModelFile.{thin_model}
 use Rattle.workbench.specs.Picture.{root_element, served}
 
 unfoldable pub metamodel_due : List ℕ → Files → Due Metamodel
@@ -20,6 +21,18 @@ metamodel_due name files = taken name (files name) >>= (λ bytes. or_not_built (
 
 unfoldable pub viewpoint_due : Metamodel → List ℕ → Files → Due Viewpoint
 viewpoint_due mm name files = taken name (files name) >>= (λ bytes. or_not_built (thin_viewpoint mm bytes))
+
+-- the model, where it has at most 1,000 objects
+abbrev pub if_few : Contents → Option Contents
+if_few m = if nat_le (len m.kinds) 1000 then Some m else None
+
+-- the valid model that a text is over a metamodel, where its objects are few
+unfoldable pub small_model : Metamodel → List ℕ → Option Contents
+small_model mm bytes = option_and_then if_few (result_ok (model mm bytes))
+
+-- the same, where the text has at most 1,048,576 bytes
+unfoldable pub thin_model : Metamodel → List ℕ → Option Contents
+thin_model mm bytes = if nat_le (length bytes) 1048576 then small_model mm bytes else None
 
 unfoldable pub model_due : Metamodel → List ℕ → Files → Due Contents
 model_due mm name files = taken name (files name) >>= (λ bytes. or_not_built (thin_model mm bytes))

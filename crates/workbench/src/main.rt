@@ -6,13 +6,10 @@ mod candidates;
 mod drawing;
 mod expressions;
 mod files;
-mod model_reader;
-mod model_text;
 mod nodes;
 mod opening;
 mod picture;
 mod refusal;
-mod repeats;
 mod run;
 mod status;
 #[cfg(test)]

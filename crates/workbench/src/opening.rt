@@ -1,23 +1,27 @@
 ghost use Rattle.std.specs.Prelude.{◌≡◌, ◌∷◌, [], IfOk};
 ghost use Rattle.std.specs.Result.{result_ok};
 ghost use Rattle.wb_metamodel.specs.Checks.{metamodel};
+ghost use Rattle.wb_model_json.specs.ModelFile.{model};
 ghost use Rattle.workbench.specs.Refusal.{Finds};
-ghost use Rattle.workbench.specs.ModelFile.{thin_model};
 ghost use Rattle.workbench.specs.Viewpoint.{thin_viewpoint};
 ghost use Rattle.workbench.specs.Steps.{IsStep, Ends, Turns};
 ghost use Rattle.workbench.specs.Over.{IsOver};
-ghost use Rattle.workbench.specs.Opening.{metamodel_due, viewpoint_due, model_due};
+ghost use Rattle.workbench.specs.Opening.{metamodel_due, viewpoint_due, model_due, small_model, thin_model};
 
 use crate::answer::{Stop, not_built};
 use crate::files::take_file;
-use crate::model_reader::read_model;
 use crate::refusal::Refusal;
 use crate::viewpoint::Viewpoint;
 use crate::viewpoint_reader::read_viewpoint;
 use std::alloc::Global;
 use wb_metamodel::{Metamodel, MetamodelRefusal, read_metamodel};
 use wb_model::Model;
+use wb_model_json::{ModelFileRefusal, read_model};
 use wb_outer::{Bytes, Shelf};
+
+const MAX_MODEL_BYTES: usize = 1_048_576;
+
+const MAX_OBJECTS: usize = 1_000;
 
 /// Takes the metamodel's file, sizes it and reads it.
 pub fn take_metamodel<H: Shelf>(
@@ -69,11 +73,43 @@ pub fn take_model<H: Shelf>(
 }
 
 /// The thin model that these bytes give over the metamodel, if they are one.
+#[tactic(auto, unfolding(crate::specs::Opening::thin_model))]
 fn model_in(alloc: Global, metamodel: Metamodel, bytes: &Bytes) -> Result<Model, Refusal>
     ensures found { Finds result (thin_model metamodel bytes.now) }
     ensures over { IfOk result (λ model. model.metamodel ≡ metamodel) }
 {
-    read_model(alloc, metamodel, bytes.as_slice())
+    if bytes.as_slice().len() <= MAX_MODEL_BYTES {
+        small_model(alloc, metamodel, bytes.as_slice())
+    } else {
+        Err(Refusal::NotThin)
+    }
+}
+
+/// The valid model that these bytes are over the metamodel, if its objects are few.
+#[tactic(auto, unfolding(crate::specs::Opening::small_model))]
+fn small_model(alloc: Global, metamodel: Metamodel, bytes: &[u8]) -> Result<Model, Refusal>
+    ensures found { Finds result (small_model metamodel bytes.now) }
+    ensures over { IfOk result (λ model. model.metamodel ≡ metamodel) }
+{
+    let model = valid_model(alloc, metamodel, bytes)?;
+    if model.len() <= MAX_OBJECTS {
+        Ok(model)
+    } else {
+        Err(Refusal::NotThin)
+    }
+}
+
+/// The valid model that these bytes are over the metamodel, if they are one.
+#[tactic(auto, using(crate::proofs::ReadModels::read_over))]
+fn valid_model(alloc: Global, metamodel: Metamodel, bytes: &[u8]) -> Result<Model, Refusal>
+    ensures found { Finds result (result_ok (model metamodel bytes.now)) }
+    ensures over { IfOk result (λ model. model.metamodel ≡ metamodel) }
+{
+    match read_model(alloc, metamodel, bytes) {
+        Ok(model) => Ok(model),
+        Err(ModelFileRefusal::At(..)) => Err(Refusal::NotThin),
+        Err(ModelFileRefusal::NoMemory) => Err(Refusal::NoMemory),
+    }
 }
 
 /// The metamodel that these bytes are, if they are one.

@@ -1,7 +1,6 @@
 use Rattle.std.proofs.Common.{[], ◌∷◌}
 use Rattle.workbench.specs.Answers.{or_not_built, taken}
-use Rattle.workbench.specs.ModelFile.{thin_model}
-use Rattle.workbench.specs.Opening.{model_due}
+use Rattle.workbench.specs.Opening.{model_due, thin_model}
 use Rattle.workbench.proofs.StepLemmas.{stopped, gone_on}
 use Rattle.workbench.proofs.FoundSteps.{found_step}
 use Rattle.workbench.proofs.OverMetamodels.{turned}
