@@ -4,6 +4,9 @@ pub mod Differing
 pub mod Entries
 pub mod PartLemmas
 pub mod ReadBack
+pub mod RowLemmas
+pub mod RowsAgain
+pub mod RowsSound
 pub mod SayableModels
 pub mod SayableWalk
 pub mod Shallow

@@ -1,10 +1,13 @@
 //! What is true of texts of models. These functions change nothing when they run.
 
-ghost use Rattle.std.specs.Prelude.{◌≡◌, Ok};
+ghost use Rattle.std.specs.Prelude.{◌≡◌, ℕ, List, Ok};
+ghost use Rattle.wb_metamodel.specs.Metamodel.{Metamodel as Definition};
 ghost use Rattle.wb_metamodel.specs.WellFormed.{WellFormed};
 ghost use Rattle.wb_model.specs.Contents.{Contents};
 ghost use Rattle.wb_model.specs.Valid.{IsValid};
 ghost use Rattle.wb_model_json.specs.ModelFile as file;
+ghost use Rattle.wb_model_json.specs.Rows.{IsTextOf};
+ghost use Rattle.wb_model_json.specs.declared.rows.ObjectRow.{ObjectRow};
 ghost use Rattle.wb_model_json.specs.Sayable.{IsSayable};
 ghost use Rattle.wb_model_json.specs.Written.{text_of};
 
@@ -25,3 +28,8 @@ pub fn written_models_are_read_again(model: &Model)
     values_are_sayable(model);
     texts_of_models_are_read_again();
 }
+
+/// A text is written of one row at most.
+pub fn rows_are_told_apart_by_their_texts()
+    ensures { (mm : Definition) → WellFormed mm → (bytes : List ℕ) (r s : ObjectRow) → IsTextOf mm bytes r → IsTextOf mm bytes s → r ≡ s }
+{}
