@@ -16,6 +16,7 @@ pub mod WrittenForms
 pub mod WrittenLemmas
 pub mod WrittenModels
 pub mod WrittenObjects
+pub mod WrittenRows
 pub mod WrittenScalars
 pub mod WrittenSlots
 pub mod WrittenTexts

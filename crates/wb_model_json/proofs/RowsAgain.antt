@@ -76,7 +76,7 @@ one_of : (n : ℕ) (many : Bool) → cond many (ltb 0 n) (eqb n 1) ≡ true → 
 one_of n true h e = absurd (false≢true (sym e))
 one_of n false h e = eqb-true n 1 h
 
-count_of : (n : ℕ) (many : Bool) → ltb 0 n ≡ true → (many ≡ false → n ≡ 1) → cond many (ltb 0 n) (eqb n 1) ≡ true
+pub count_of : (n : ℕ) (many : Bool) → ltb 0 n ≡ true → (many ≡ false → n ≡ 1) → cond many (ltb 0 n) (eqb n 1) ≡ true
 count_of n true h one = h
 count_of n false h one = let e = one refl in grind (arith, nat_tests)
 

@@ -19,7 +19,8 @@ mod writing;
 
 pub use laws::{
     rows_are_told_apart_by_their_texts, texts_of_models_are_read_again,
-    written_models_are_read_again,
+    texts_of_objects_are_those_of_their_rows, written_models_are_read_again,
+    written_objects_are_read_again,
 };
 pub use reading::read_model;
 pub use refusal::{ModelCode, ModelFileRefusal};
