@@ -1,5 +1,5 @@
 -- A row: one object of a model by itself, with its class and its slots.
-use Rattle.std.specs.Prelude.{◌≡◌, ℕ, ◌<◌, Bool, true, ◌&&◌, nat_eq, nat_lt, if◌then◌else◌, List, [], ◌∷◌, map, length, Option, Some, option_map, Ok, codes}
+use Rattle.std.specs.Prelude.{◌≡◌, ℕ, ◌<◌, Bool, true, ◌&&◌, nat_eq, nat_lt, if◌then◌else◌, List, [], ◌∷◌, map, length, Some, Ok, codes}
 use Rattle.std.specs.List.{list_all, AllByRecursion}
 use Rattle.std.specs.Cmp.Lexicographic.{slice_cmp}
 use Rattle.std.specs.Ordering.{nat_cmp, is_lt}
@@ -12,7 +12,7 @@ use Rattle.wb_metamodel.specs.Metamodel.{Metamodel, feature_at, features_of}
 use Rattle.wb_metamodel.specs.declared.features.Feature.{Feature}
 use Rattle.wb_metamodel.specs.declared.features.Kind.{Kind}
 use Rattle.wb_model.specs.declared.scalars.Scalar.{Scalar}
-use Rattle.wb_model.specs.Contents.{Contents, kind}
+use Rattle.wb_model.specs.Contents.{Contents}
 use Rattle.wb_model.specs.Valid.{has_feature, is_many}
 use Rattle.wb_model_json.specs.declared.rows.ObjectRow.{ObjectRow}
 use Rattle.wb_model_json.specs.declared.rows.RowSlot.{RowSlot}
@@ -78,9 +78,6 @@ pub record IsTextOf (mm : Metamodel) (bytes : List ℕ) (r : ObjectRow) : Type 0
 abbrev pub slot_row : List ℕ × (ℕ × List Scalar) → RowSlot
 slot_row n = record { feature = n.1.0; values = n.1.1 }
 
+-- the class and the slots of an object of this class
 abbrev pub row_of : Contents → ℕ → ℕ → ObjectRow
 row_of m o c = record { class = c; slots = map slot_row (by_name (named_slots m o (features_of m.metamodel c))) }
-
--- the class and the slots of a live object
-abbrev pub object_row : Contents → ℕ → Option ObjectRow
-object_row m o = option_map (row_of m o) (kind m o)
