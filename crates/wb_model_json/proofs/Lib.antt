@@ -4,6 +4,9 @@ pub mod Differing
 pub mod Entries
 pub mod PartLemmas
 pub mod ReadBack
+pub mod RowLemmas
+pub mod RowsAgain
+pub mod RowsSound
 pub mod SayableModels
 pub mod SayableWalk
 pub mod Shallow
@@ -13,6 +16,7 @@ pub mod WrittenForms
 pub mod WrittenLemmas
 pub mod WrittenModels
 pub mod WrittenObjects
+pub mod WrittenRows
 pub mod WrittenScalars
 pub mod WrittenSlots
 pub mod WrittenTexts

@@ -150,7 +150,7 @@ module _ (m : Contents) (formed : WellFormed m.metamodel) (v : Valid m) (s : IsS
   slots-shallow : (o c : ℕ) → IsShallow 2 (slots_data m o c)
   slots-shallow o c = members-shallow (slot_data m.metamodel) 1 (named_slots m o (features_of m.metamodel c)) (λ n i. slot-shallow m.metamodel n.1 (all-written m formed v s o c n i).sayable)
 
-  slots-texts : (e : ℕ × ℕ) → In e (entries m.kinds) → HasTexts (slots_data m e.0 e.1)
+  pub slots-texts : (e : ℕ × ℕ) → In e (entries m.kinds) → HasTexts (slots_data m e.0 e.1)
   slots-texts e j = members-texts (slot_data m.metamodel) (named_slots m e.0 (features_of m.metamodel e.1)) (λ n i.
       let w = all-written m formed v s e.0 e.1 n i in
       (name-utf8 n.0 (name-read m.metamodel formed e.1 (class-known m formed v s e j) n w), slot-texts m.metamodel formed n.1 w.sayable))

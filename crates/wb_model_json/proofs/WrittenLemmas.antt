@@ -23,7 +23,7 @@ single_no_float : (mm : Metamodel) (values : List Scalar) → has_float (single_
 single_no_float mm [] = refl
 single_no_float mm (v ∷ values) = scalar_no_float mm v
 
-slot_no_float : (mm : Metamodel) (s : ℕ × List Scalar) → has_float (slot_data mm s) ≡ false
+pub slot_no_float : (mm : Metamodel) (s : ℕ × List Scalar) → has_float (slot_data mm s) ≡ false
 unfolding slot_data
 slot_no_float mm s =
     elim (is_many mm s.0) as (λ b. has_float (cond b (list_json (scalar_data mm) s.1) (single_data mm s.1)) ≡ false) [

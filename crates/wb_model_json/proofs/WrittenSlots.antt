@@ -73,7 +73,7 @@ module _ (mm : Metamodel) (formed : WellFormed mm) (c : ℕ) (known : c < length
   pub data-read : (n : NamedSlot) → IsWritten mm c n → slot_of (slot_data mm n.1) ≡ Ok (slot_text mm n.1)
   data-read n w = slot-read mm n.1 w.single w.sayable
 
-  found : (n : NamedSlot) → IsWritten mm c n → feature_named mm c n.0 ≡ Some n.1.0
+  pub found : (n : NamedSlot) → IsWritten mm c n → feature_named mm c n.0 ≡ Some n.1.0
   found n w = ap (feature_named mm c) w.named ∙ formed.features_named c n.1.0 w.feature known (Contains-In (features_of mm c) n.1.0 w.own) w.at
 
   with_values : (n : NamedSlot) → IsWritten mm c n → slot_with mm (slot_text mm n.1) n.1.0 ≡ Ok (slot_part mm n.1)

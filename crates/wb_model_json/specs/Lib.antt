@@ -2,5 +2,7 @@ pub mod ByName
 pub mod ModelFile
 pub mod ModelText
 pub mod Refusals
+pub mod RowText
+pub mod Rows
 pub mod Sayable
 pub mod Written

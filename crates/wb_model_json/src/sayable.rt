@@ -4,6 +4,7 @@ ghost use Rattle.wb_metamodel.specs.Metamodel.{features_of};
 ghost use Rattle.wb_model.specs.Contents.{slot};
 ghost use Rattle.wb_model_json.specs.Sayable.{is_sayable, is_sayable_object, IsSayable};
 
+use crate::rows::{ObjectRow, RowSlot};
 use wb_metamodel::{ClassId, ObjectId};
 use wb_model::{Model, Scalar};
 
@@ -14,6 +15,21 @@ pub fn values_are_sayable(model: &Model)
     model.valid();
     for number in 0..model.next() {
         object_is_sayable(model, ObjectId(number));
+    }
+}
+
+/// The same of the values of a row.
+pub fn row_is_sayable(row: &ObjectRow)
+    ensures { list_all (λ slot. list_all is_sayable slot.values) row.now.slots ≡ true }
+{
+    slots_of_row_are_sayable(row.slots.as_slice());
+}
+
+fn slots_of_row_are_sayable(slots: &[RowSlot])
+    ensures { list_all (λ slot. list_all is_sayable slot.values) slots.now ≡ true }
+{
+    for slot in slots {
+        slot_is_sayable(slot.values.as_slice());
     }
 }
 

@@ -115,7 +115,11 @@ fn object_of_class(
     json!(in alloc; {"class": name, "id": id, "slots": slots})
 }
 
-fn class_value(alloc: Global, metamodel: &Metamodel, class: ClassId) -> Result<Value, AllocError>
+pub fn class_value(
+    alloc: Global,
+    metamodel: &Metamodel,
+    class: ClassId,
+) -> Result<Value, AllocError>
     requires { class < length metamodel.now.classes }
     ensures { IfOk result (λ value. view value ≡ string (class_name metamodel.now class)) }
 {
@@ -173,7 +177,7 @@ fn put_slot(
 }
 
 #[tactic(auto, unfolding(crate::specs::Written::slot_data))]
-fn slot_value(
+pub fn slot_value(
     alloc: Global,
     metamodel: &Metamodel,
     f: FeatureId,

@@ -1,0 +1,17 @@
+use wb_base::List;
+use wb_metamodel::{ClassId, FeatureId};
+use wb_model::Scalar;
+
+/// One object of a model by itself.
+#[derive(Debug, Drop)]
+pub struct ObjectRow {
+    pub class: ClassId,
+    pub slots: List<RowSlot>,
+}
+
+/// A slot that is not empty.
+#[derive(Debug, Drop)]
+pub struct RowSlot {
+    pub feature: FeatureId,
+    pub values: List<Scalar>,
+}
