@@ -1,12 +1,12 @@
 -- What is written of a row is read as this row again.
-use Rattle.std.proofs.Common.{◌≡◌, ◌<◌, ℕ, Bool, true, false, ◌&&◌, List, [], ◌∷◌, map, length, Option, Some, None, Result, Ok, Err, refl, sym, ap, ◌∙◌, subst, cond, eqb, ltb, arith, Ordering, Less, Equal, Greater}
+use Rattle.std.proofs.Common.{◌≡◌, ◌<◌, ℕ, Bool, true, false, ◌&&◌, List, [], ◌∷◌, map, length, Some, None, Ok, Err, refl, sym, ap, ◌∙◌, subst, cond, eqb, ltb, arith, Ordering, Less, Equal, Greater}
 use Rattle.std.proofs.lemmas.Bool.{and_parts, false≢true, eqb-true}
 use Rattle.std.proofs.lemmas.Bool.Decides.{nat_tests}
 use Rattle.std.proofs.lemmas.Option.{none-some, same_Some}
 use Rattle.std.proofs.lemmas.Slice.Eq.{bytes_eq-Decides}
 use Rattle.std.proofs.lemmas.Str.{IsUtf8-from_is_utf8}
 use Rattle.std.specs.Str.{is_utf8}
-use Rattle.std.specs.Prelude.{codes, slice_get}
+use Rattle.std.specs.Prelude.{codes}
 use Rattle.std.specs.List.{list_all, AllByRecursion}
 use Rattle.std.specs.Option.{option_map_or}
 use Rattle.std.specs.Ordering.{nat_cmp, is_lt}
@@ -19,13 +19,11 @@ use Rattle.wb_json.specs.Form.{◌>>=◌, in_turn, or_wrong, is_name, members_of
 use Rattle.wb_json.specs.Json.{json_of}
 use Rattle.wb_json.specs.ToJson.{members_json}
 use Rattle.wb_json.proofs.JsonTexts.{json_of_text}
-use Rattle.wb_metamodel.specs.Metamodel.{Metamodel, same_name, class_at, class_named, feature_at, feature_named, features_of}
+use Rattle.wb_metamodel.specs.Metamodel.{Metamodel, same_name, class_at, class_named, feature_at, features_of}
 use Rattle.wb_metamodel.specs.WellFormed.{WellFormed}
 use Rattle.wb_metamodel.specs.declared.classes.Class.{Class}
 use Rattle.wb_metamodel.specs.declared.features.Feature.{Feature}
-use Rattle.wb_metamodel.specs.declared.features.Kind.{Kind}
 use Rattle.wb_metamodel.proofs.Known.{features-known}
-use Rattle.wb_model.specs.declared.scalars.Scalar.{Scalar}
 use Rattle.wb_model.specs.Valid.{is_many}
 use Rattle.wb_model.proofs.LinkLemmas.{any_found}
 use Rattle.wb_model.proofs.Members.{In, In-all, map-In, Contains-In}
@@ -33,21 +31,20 @@ use Rattle.wb_model.proofs.Members.In.{here, there}
 use Rattle.wb_model_json.specs.declared.model_text.SlotText.{SlotText}
 use Rattle.wb_model_json.specs.declared.rows.ObjectRow.{ObjectRow}
 use Rattle.wb_model_json.specs.declared.rows.RowSlot.{RowSlot}
-use Rattle.wb_model_json.specs.declared.row_text.RowText.{RowText}
 use Rattle.wb_model_json.specs.ByName.{by_name}
 use Rattle.wb_model_json.specs.ModelFile.{value_for, values_for}
 use Rattle.wb_model_json.specs.ModelText.{slot_of}
 use Rattle.wb_model_json.specs.RowText.{row_text_of, counted, row_slot_with, row_slot_for, row_with, row_for, row_from}
-use Rattle.wb_model_json.specs.Rows.{slot_name, row_slot, data_of_row, text_of_row, names_ascend, has_count, IsSaid, IsRowSlot, IsRow, IsTextOf, slot_row}
+use Rattle.wb_model_json.specs.Rows.{slot_name, row_slot, data_of_row, text_of_row, names_ascend, IsSaid, IsRowSlot, IsRow, IsTextOf, slot_row}
 use Rattle.wb_model_json.specs.Sayable.{is_sayable}
-use Rattle.wb_model_json.specs.Written.{class_name, feature_name, slot_data}
+use Rattle.wb_model_json.specs.Written.{class_name, slot_data}
 use Rattle.wb_model_json.proofs.ByName.{Ascend, IsBelowEach, by_name-In, by_name-ascending}
 use Rattle.wb_model_json.proofs.ReadBack.{read-compact_text}
 use Rattle.wb_model_json.proofs.SayableModels.{slot-shallow}
 use Rattle.wb_model_json.proofs.Shallow.{IsShallow, members-shallow}
 use Rattle.wb_model_json.proofs.WrittenForms.{members_of-written, in_turn-made}
 use Rattle.wb_model_json.proofs.WrittenObjects.{present}
-use Rattle.wb_model_json.proofs.WrittenScalars.{scalar_text, scalar-read, slot_text, IsAgain, values-again}
+use Rattle.wb_model_json.proofs.WrittenScalars.{scalar-read, slot_text, values-again}
 use Rattle.wb_model_json.proofs.WrittenSlots.{NamedSlot, IsWritten, named_text, name-read, data-read, found}
 
 all-In : {A : Type 0} (P : A → Type 0) (xs : List A) (x : A) → AllByRecursion P xs → In x xs → P x

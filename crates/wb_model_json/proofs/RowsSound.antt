@@ -1,16 +1,16 @@
 -- A row that is read of a value is a row, and its values are what the value says.
-use Rattle.std.proofs.Common.{◌≡◌, ◌<◌, ℕ, pos, negsuc, Bool, true, false, ◌&&◌, List, [], ◌∷◌, map, length, Option, Some, None, Result, Ok, Err, refl, sym, ap, ◌∙◌, subst, cond, eqb, ltb, nat_eq, Ordering, Less, Equal, Greater, ◌^◌, ◌⊎◌, inl, inr}
+use Rattle.std.proofs.Common.{◌≡◌, ◌<◌, ℕ, pos, negsuc, Bool, true, false, ◌&&◌, List, [], ◌∷◌, map, length, Option, Some, None, Result, Ok, Err, refl, sym, ap, ◌∙◌, subst, cond, eqb, ltb, Ordering, Less, Equal, Greater, ◌^◌, ◌⊎◌}
 use Rattle.std.proofs.lemmas.Bool.{and_parts, and_from, false≢true, lt-ltb, ltb-true}
 use Rattle.std.proofs.lemmas.Option.{none-some, same_Some, slice_get_within}
 use Rattle.std.proofs.lemmas.Slice.Eq.{bytes_eq-Decides}
 use Rattle.std.specs.Prelude.{codes, slice_get, unwrap_or, ⊤}
-use Rattle.std.specs.List.{list_all, list_any, find, position, AllByRecursion, enumerate_from}
+use Rattle.std.specs.List.{list_all, find, position, AllByRecursion, enumerate_from}
 use Rattle.std.specs.Option.{option_map, option_map_or, option_and_then, IfSome}
 use Rattle.std.specs.Ordering.{nat_cmp, is_lt, match_ordering}
-use Rattle.std.specs.Cmp.Lexicographic.{slice_cmp, pointwise}
+use Rattle.std.specs.Cmp.Lexicographic.{slice_cmp}
 use Rattle.serde_json.specs.Data.{Data, null, boolean, number, string, array, object, Members, no_members, member}
 use Rattle.serde_json.specs.Find.{get, get_member, as_object}
-use Rattle.wb_json.specs.Place.{Place, at_index, at_member, within}
+use Rattle.wb_json.specs.Place.{Place, at_member, within}
 use Rattle.wb_json.specs.Form.{◌>>=◌, in_turn, or_wrong, is_name, listed, needed, needed_part, name_of, members_of, member_of, member_list, object_with}
 use Rattle.wb_json.specs.Json.{json_of}
 use Rattle.wb_json.proofs.Ascending.{IsBelowAll, Ascends, MembersAscend, json_of_ascends}
@@ -40,7 +40,7 @@ use Rattle.wb_model_json.specs.ModelText.{slot_of}
 use Rattle.wb_model_json.specs.RowText.{row_text_of, counted, row_slot_with, row_slot_for, row_with, row_for, row_from, is_known_slot, is_known_row}
 use Rattle.wb_model_json.specs.Rows.{slot_name, names_ascend, has_count, IsSaid, IsRowSlot, IsRow}
 use Rattle.wb_model_json.specs.Sayable.{is_sayable}
-use Rattle.wb_model_json.specs.Written.{literal_text, feature_name}
+use Rattle.wb_model_json.specs.Written.{literal_text}
 use Rattle.wb_model_json.proofs.WrittenScalars.{scalar_text, scalar-read, IsAgain}
 
 -- ---- steps that found something

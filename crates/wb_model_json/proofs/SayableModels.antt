@@ -1,5 +1,5 @@
 -- What is written of a model is a value that its text spells.
-use Rattle.std.proofs.Common.{◌≡◌, ◌≤◌, ℕ, zero, suc, ◌^◌, Bool, true, false, ◌&&◌, List, [], ◌∷◌, map, length, pos, negsuc, Option, Some, None, refl, sym, ap, ◌∙◌, subst, cond, ltb, arith}
+use Rattle.std.proofs.Common.{◌≡◌, ◌≤◌, ℕ, ◌^◌, Bool, true, false, ◌&&◌, List, [], ◌∷◌, map, pos, negsuc, Some, None, refl, sym, ◌∙◌, subst, cond, ltb, arith}
 use Rattle.std.proofs.lemmas.Bool.{and_parts, and_from, ltb-true}
 use Rattle.std.proofs.lemmas.Bool.Decides.{nat_tests}
 use Rattle.std.proofs.lemmas.Str.{IsUtf8-from_is_utf8, IsUtf8-nil}
@@ -8,7 +8,7 @@ use Rattle.std.specs.Option.{option_map_or}
 use Rattle.std.specs.List.{list_all}
 use Rattle.std.specs.Str.{IsUtf8}
 use Rattle.std.specs.FinMap.{entries, keys}
-use Rattle.serde_json.specs.Data.{Data, null, number, string, object, no_members, member, unsigned}
+use Rattle.serde_json.specs.Data.{Data, number, string, object, no_members, member, unsigned}
 use Rattle.serde_json.specs.Written.{compact_text}
 use Rattle.serde_json.specs.View.{items_of}
 use Rattle.wb_json.specs.ToJson.{list_json, members_json}

@@ -1,12 +1,11 @@
 -- Where each object below `next` can be said, so can the model.
-use Rattle.std.proofs.Common.{◌≡◌, ◌<◌, ℕ, Bool, true, false, ◌&&◌, List, [], Some, sym, ap, ◌∙◌, subst, eqb, ltb, length}
+use Rattle.std.proofs.Common.{◌≡◌, ◌<◌, ℕ, true, ◌&&◌, [], sym, ap, ◌∙◌, subst, eqb, ltb, length}
 use Rattle.std.proofs.lemmas.Bool.{and_parts, eqb-true, ltb-true}
 use Rattle.std.proofs.lemmas.Cmp.{nat_cmp_total}
 use Rattle.std.specs.List.{list_all}
 use Rattle.std.specs.Option.{option_map_or}
 use Rattle.std.specs.FinMap.{entries, nat_cmp-IsAntisymmetric}
 use Rattle.wb_metamodel.specs.Metamodel.{features_of}
-use Rattle.wb_model.specs.declared.scalars.Scalar.{Scalar}
 use Rattle.wb_model.specs.Contents.{Contents, Filled, members, kind, slot}
 use Rattle.wb_model.specs.Valid.{Valid, IsValid, is_of_class, has_feature}
 use Rattle.wb_model.proofs.LinkLemmas.{any_found}

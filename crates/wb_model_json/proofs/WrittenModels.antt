@@ -1,29 +1,26 @@
 -- What is written of a valid model is read as this model again.
-use Rattle.std.proofs.Common.{◌≡◌, ◌<◌, ◌≤◌, ℕ, ◌^◌, Bool, true, false, not, ◌&&◌, ◌||◌, List, [], ◌∷◌, ◌++◌, map, length, Option, Some, None, Result, Ok, Err, refl, sym, ap, ◌∙◌, subst, cond, eqb, ltb, leb, arith, T}
-use Rattle.std.proofs.lemmas.Bool.{and_parts, and_from, false≢true, ltb-true, eqb-true, not_from_false, false_from_ne_true, true_from_ne_false, le-leb}
+use Rattle.std.proofs.Common.{◌≡◌, ◌<◌, ◌≤◌, ℕ, ◌^◌, Bool, true, false, ◌&&◌, ◌||◌, List, [], ◌∷◌, ◌++◌, map, length, Some, None, Ok, Err, refl, sym, ap, ◌∙◌, subst, cond, eqb, ltb, leb, arith}
+use Rattle.std.proofs.lemmas.Bool.{and_from, false≢true, ltb-true, eqb-true, le-leb}
 use Rattle.std.proofs.lemmas.Bool.Decides.{nat_tests}
-use Rattle.std.proofs.lemmas.Cmp.{nat_cmp_total, tied_itself}
+use Rattle.std.proofs.lemmas.Cmp.{nat_cmp_total}
 use Rattle.std.proofs.lemmas.List.{length-map}
-use Rattle.std.proofs.lemmas.Option.{same_Some}
 use Rattle.std.specs.Bool.{beq}
 use Rattle.std.specs.Prelude.{⊤, codes, filter}
 use Rattle.std.specs.List.{list_all, flat_map}
 use Rattle.std.specs.Option.{option_map_or}
 use Rattle.std.specs.Ordering.{nat_cmp}
-use Rattle.std.specs.FinMap.{FinMap, entries, keys, len, len-entries, from_entries, nat_cmp-IsAntisymmetric}
+use Rattle.std.specs.FinMap.{entries, keys, len, len-entries, from_entries, nat_cmp-IsAntisymmetric}
 use Rattle.serde_json.specs.Data.{Data, number, array, object, no_members, member, unsigned}
 use Rattle.serde_json.specs.View.{items_of}
-use Rattle.wb_json.specs.Place.{Place, at_member}
+use Rattle.wb_json.specs.Place.{at_member}
 use Rattle.wb_json.specs.Form.{or_wrong, u32_of, list_of, object_with}
 use Rattle.wb_json.specs.Json.{json_of}
 use Rattle.wb_json.specs.ToJson.{list_json}
-use Rattle.wb_metamodel.specs.Metamodel.{Metamodel, features_of}
+use Rattle.wb_metamodel.specs.Metamodel.{features_of}
 use Rattle.wb_metamodel.specs.WellFormed.{WellFormed}
 use Rattle.wb_model.specs.declared.scalars.Scalar.{Scalar}
 use Rattle.wb_model.specs.declared.parts.Part.{Part}
-use Rattle.wb_model.specs.declared.records.Record.{Record}
-use Rattle.wb_model.specs.declared.records.Slot.{Slot}
-use Rattle.wb_model.specs.Broken.{broken, miswritten}
+use Rattle.wb_model.specs.Broken.{broken}
 use Rattle.wb_model.specs.Contents.{Contents, Filled, members, slot_cmp, kind, slot}
 use Rattle.wb_model.specs.Parts.{slot_of, record_of, made_of, is_listed, is_listed_slot}
 use Rattle.wb_model.specs.Records.{kind_entry, filled, slot_entry, slot_entries}
@@ -37,7 +34,6 @@ use Rattle.wb_model.proofs.Members.{In, In-all, all_In, any_In, In-map, map-In, 
 use Rattle.wb_model.proofs.Members.In.{here, there}
 use Rattle.wb_model_json.specs.declared.model_text.ObjectText.{ObjectText}
 use Rattle.wb_model_json.specs.declared.model_text.ModelText.{ModelText}
-use Rattle.wb_model_json.specs.declared.refusal.ModelCode.{ModelCode}
 use Rattle.wb_model_json.specs.declared.refusal.ModelCode.TheVariants.{BadJson, BadShape, TooMany, DuplicateObject, UnknownName}
 use Rattle.wb_model_json.specs.ByName.{by_name}
 use Rattle.wb_model_json.specs.ModelFile.{few, repeat_from, id_of, repeated_at, unrepeated, part_for, parts_for, read_text, checked_parts, judged, made, model}
@@ -50,9 +46,9 @@ use Rattle.wb_model_json.proofs.Entries.{entry-get, get-entry, from_entries-entr
 use Rattle.wb_model_json.proofs.Unbroken.{unbroken}
 use Rattle.wb_model_json.proofs.Unrepeated.{once-none}
 use Rattle.wb_model_json.proofs.WrittenForms.{list_of-written, walked-made}
-use Rattle.wb_model_json.proofs.WrittenObjects.{named_slots_of, object_text, object_part, entry-kind, slot-entry, IsOfObject, named-origin, of_object, slot-written, all-written, next-small, object-small, class-known, object-read, object-again}
+use Rattle.wb_model_json.proofs.WrittenObjects.{named_slots_of, object_text, object_part, entry-kind, slot-entry, named-origin, of_object, slot-written, all-written, next-small, object-small, class-known, object-read, object-again}
 use Rattle.wb_model_json.proofs.WrittenScalars.{map-same}
-use Rattle.wb_model_json.proofs.WrittenSlots.{NamedSlot, IsWritten, named_part, same-feature}
+use Rattle.wb_model_json.proofs.WrittenSlots.{NamedSlot, named_part, same-feature}
 
 -- the form of a model
 model_of-read : (next : ℕ) (objects roots : Data) (texts : List ObjectText) (numbers : List ℕ) → ltb next (2 ^ 32) ≡ true → list_of u32_of roots ≡ Ok numbers → list_of object_of objects ≡ Ok texts

@@ -1,5 +1,5 @@
 -- What is written of an object of a valid model is read as this object again.
-use Rattle.std.proofs.Common.{◌≡◌, ◌<◌, ℕ, zero, suc, ◌^◌, Bool, true, false, ◌&&◌, List, [], ◌∷◌, map, length, Option, Some, None, Result, Ok, Err, refl, sym, ap, ◌∙◌, subst, cond, eqb, ltb, leb, arith}
+use Rattle.std.proofs.Common.{◌≡◌, ◌<◌, ℕ, zero, suc, ◌^◌, Bool, true, false, ◌&&◌, List, [], ◌∷◌, map, length, Some, None, Ok, refl, sym, ap, ◌∙◌, subst, cond, ltb, leb, arith}
 use Rattle.std.proofs.lemmas.Bool.{and_parts, false≢true, ltb-true, lt-ltb}
 use Rattle.std.proofs.lemmas.Bool.Decides.{nat_tests}
 use Rattle.std.proofs.lemmas.Cmp.{nat_cmp_total}
@@ -8,9 +8,8 @@ use Rattle.std.specs.List.{list_all}
 use Rattle.std.specs.Option.{option_map_or}
 use Rattle.std.specs.FinMap.{entries, get, nat_cmp-IsAntisymmetric}
 use Rattle.serde_json.specs.Data.{Data, number, string, object, no_members, member, unsigned}
-use Rattle.wb_json.specs.Place.{Place}
-use Rattle.wb_json.specs.Form.{is_name, u32_of, name_of, members_of, object_with}
-use Rattle.wb_metamodel.specs.Metamodel.{Metamodel, class_at, feature_at, features_of}
+use Rattle.wb_json.specs.Form.{is_name, members_of, object_with}
+use Rattle.wb_metamodel.specs.Metamodel.{class_at, feature_at, features_of}
 use Rattle.wb_metamodel.specs.WellFormed.{WellFormed}
 use Rattle.wb_metamodel.specs.declared.classes.Class.{Class}
 use Rattle.wb_metamodel.specs.declared.features.Feature.{Feature}
@@ -28,11 +27,11 @@ use Rattle.wb_model_json.specs.ByName.{by_name}
 use Rattle.wb_model_json.specs.ModelFile.{part_for}
 use Rattle.wb_model_json.specs.ModelText.{object_of, slot_of}
 use Rattle.wb_model_json.specs.Sayable.{is_sayable, IsSayable}
-use Rattle.wb_model_json.specs.Written.{class_name, feature_name, is_filled, named_slot, named_slots, slot_data, slots_data, object_of_class, object_data}
+use Rattle.wb_model_json.specs.Written.{class_name, is_filled, named_slot, named_slots, slot_data, slots_data, object_of_class, object_data}
 use Rattle.wb_model_json.proofs.ByName.{by_name-In, by_name-ascend}
 use Rattle.wb_model_json.proofs.Entries.{entry-get, get-entry}
 use Rattle.wb_model_json.proofs.WrittenForms.{members_of-written}
-use Rattle.wb_model_json.proofs.WrittenScalars.{slot_text, kind-again, IsAgain}
+use Rattle.wb_model_json.proofs.WrittenScalars.{slot_text, kind-again}
 use Rattle.wb_model_json.proofs.WrittenSlots.{NamedSlot, IsWritten, named_text, named_part, name-read, data-read, part-again}
 
 pub present : {A : Type 0} (xs : List A) (i : ℕ) → i < length xs → (x : A) × (slice_get xs i ≡ Some x)

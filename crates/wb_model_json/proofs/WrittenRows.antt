@@ -1,5 +1,5 @@
 -- What is written of an object of a valid model is the text of its row.
-use Rattle.std.proofs.Common.{◌≡◌, ◌<◌, ℕ, Bool, true, ◌&&◌, List, [], ◌∷◌, map, length, Some, refl, sym, ap, ◌∙◌, subst, eqb}
+use Rattle.std.proofs.Common.{◌≡◌, ◌<◌, ℕ, true, ◌&&◌, List, [], ◌∷◌, map, length, Some, refl, sym, ap, ◌∙◌, subst, eqb}
 use Rattle.std.proofs.lemmas.Bool.{and_from}
 use Rattle.std.proofs.lemmas.Cmp.{nat_cmp_total}
 use Rattle.std.proofs.lemmas.Option.{same_Some}
@@ -10,11 +10,11 @@ use Rattle.std.specs.Option.{option_map_or}
 use Rattle.std.specs.Ordering.{nat_cmp, is_lt}
 use Rattle.std.specs.Cmp.Lexicographic.{slice_cmp}
 use Rattle.std.specs.FinMap.{entries, nat_cmp-IsAntisymmetric}
-use Rattle.serde_json.specs.Data.{Data, string, object, no_members, member}
+use Rattle.serde_json.specs.Data.{string, object, no_members, member}
 use Rattle.serde_json.specs.Written.{compact_text}
 use Rattle.wb_json.specs.Form.{◌>>=◌}
 use Rattle.wb_json.specs.ToJson.{members_json}
-use Rattle.wb_metamodel.specs.Metamodel.{Metamodel, feature_at, features_of}
+use Rattle.wb_metamodel.specs.Metamodel.{Metamodel, features_of}
 use Rattle.wb_metamodel.specs.WellFormed.{WellFormed}
 use Rattle.wb_metamodel.specs.declared.features.Feature.{Feature}
 use Rattle.wb_metamodel.specs.declared.features.Kind.{Kind}
@@ -24,13 +24,11 @@ use Rattle.wb_model.specs.Valid.{Valid, is_many}
 use Rattle.wb_model.proofs.Found.{is_itself}
 use Rattle.wb_model.proofs.Members.{In, In-all, any_In}
 use Rattle.wb_model.proofs.Members.In.{here, there}
-use Rattle.wb_model_json.specs.declared.rows.ObjectRow.{ObjectRow}
-use Rattle.wb_model_json.specs.declared.rows.RowSlot.{RowSlot}
 use Rattle.wb_model_json.specs.ByName.{by_name}
 use Rattle.wb_model_json.specs.ModelFile.{value_for}
 use Rattle.wb_model_json.specs.Rows.{slot_name, row_slot, data_of_row, text_of_row, names_ascend, IsSaid, IsRowSlot, IsRow, IsTextOf, slot_row, row_of}
 use Rattle.wb_model_json.specs.Sayable.{is_sayable, IsSayable}
-use Rattle.wb_model_json.specs.Written.{class_name, feature_name, named_slots, slot_data, row_of_class, row_data, row_text}
+use Rattle.wb_model_json.specs.Written.{class_name, named_slots, slot_data, row_of_class, row_data, row_text}
 use Rattle.wb_model_json.proofs.ByName.{Ascend, IsBelowEach, by_name-ascend, by_name-ascending, put_all-by_name, json_members}
 use Rattle.wb_model_json.proofs.Entries.{get-entry}
 use Rattle.wb_model_json.proofs.RowsAgain.{count_of}

@@ -1,14 +1,12 @@
 -- What is written of values is read as these values again.
-use Rattle.std.proofs.Common.{◌≡◌, ℕ, zero, suc, ◌<◌, ◌≤◌, ◌^◌, Bool, true, false, ◌&&◌, List, [], ◌∷◌, map, length, pos, negsuc, Option, Some, None, Result, Ok, Err, refl, sym, ap, ◌∙◌, subst, cond, eqb, ltb, leb, arith}
+use Rattle.std.proofs.Common.{◌≡◌, ℕ, zero, suc, ◌<◌, ◌≤◌, ◌^◌, Bool, true, false, ◌&&◌, List, [], ◌∷◌, map, length, pos, negsuc, Some, None, Ok, refl, ap, ◌∙◌, subst, cond, eqb, ltb, arith}
 use Rattle.std.proofs.lemmas.Bool.{and_parts, eqb-true, false≢true, ltb-true}
 use Rattle.std.proofs.lemmas.Bool.Decides.{nat_tests}
 use Rattle.std.proofs.lemmas.Option.{none-some}
 use Rattle.std.specs.Prelude.{slice_get, unwrap_or, is_some}
 use Rattle.std.specs.List.{list_all}
 use Rattle.std.specs.Option.{option_map, option_map_or}
-use Rattle.serde_json.specs.Data.{Data, null, boolean, number, string, unsigned, array}
 use Rattle.serde_json.specs.Find.{as_array}
-use Rattle.wb_json.specs.Place.{Place}
 use Rattle.wb_json.specs.Form.{◌>>=◌, in_turn, or_wrong, list_of}
 use Rattle.wb_json.specs.ToJson.{list_json}
 use Rattle.wb_metamodel.specs.Metamodel.{Metamodel, enum_at, literals_of, literal_named}
@@ -22,11 +20,10 @@ use Rattle.wb_model.specs.declared.scalars.Scalar.TheVariants as scalars
 use Rattle.wb_model.specs.Contents.{Contents}
 use Rattle.wb_model.specs.Valid.{is_many, is_of_kind}
 use Rattle.wb_model.proofs.Members.{In, In-all}
-use Rattle.wb_model.proofs.Members.In.{here, there}
 use Rattle.wb_model_json.specs.declared.model_text.ScalarText.{ScalarText}
 use Rattle.wb_model_json.specs.declared.model_text.ScalarText.TheVariants.{Number, Flag, Words}
 use Rattle.wb_model_json.specs.declared.model_text.SlotText.{SlotText}
-use Rattle.wb_model_json.specs.ModelFile.{object_number, literal_for, value_for, values_for}
+use Rattle.wb_model_json.specs.ModelFile.{literal_for, value_for, values_for}
 use Rattle.wb_model_json.specs.ModelText.{scalar_of, slot_of, alone}
 use Rattle.wb_model_json.specs.Sayable.{is_sayable}
 use Rattle.wb_model_json.specs.Written.{literal_text, scalar_data, single_data, slot_data}

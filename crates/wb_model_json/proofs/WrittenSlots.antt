@@ -1,23 +1,21 @@
 -- What is written of the slots of an object is read as these slots again.
-use Rattle.std.proofs.Common.{◌≡◌, ◌<◌, ℕ, Bool, true, false, List, [], ◌∷◌, map, length, Some, Result, Ok, Err, refl, sym, ap, ◌∙◌, subst, cond, eqb, Less}
+use Rattle.std.proofs.Common.{◌≡◌, ◌<◌, ℕ, true, false, List, [], ◌∷◌, map, length, Some, Ok, Err, refl, sym, ap, ◌∙◌, subst, cond, eqb}
 use Rattle.std.proofs.lemmas.Bool.{and_from, not_from_false, false_from_ne_true, eqb-true, false≢true}
 use Rattle.std.proofs.lemmas.Cmp.{nat_list_cmp_total, tied_itself}
-use Rattle.std.proofs.lemmas.Option.{same_Some, slice_get_within}
+use Rattle.std.proofs.lemmas.Option.{same_Some}
 use Rattle.std.specs.Prelude.{codes, nat_lt}
 use Rattle.std.specs.List.{list_all, find}
 use Rattle.wb_metamodel.specs.Checks.{is_name_of}
-use Rattle.std.specs.Option.{option_or, option_map_or}
-use Rattle.std.specs.Ordering.{nat_cmp, is_lt}
-use Rattle.std.specs.Cmp.Lexicographic.{slice_cmp}
-use Rattle.wb_json.specs.Place.{Place, at_member}
+use Rattle.std.specs.Option.{option_or}
+use Rattle.std.specs.Ordering.{is_lt}
+use Rattle.wb_json.specs.Place.{at_member}
 use Rattle.wb_json.specs.Form.{in_turn, or_wrong, is_name}
 use Rattle.wb_json.proofs.Ascending.{IsBelow}
-use Rattle.wb_metamodel.specs.Metamodel.{Metamodel, class_at, class_named, feature_at, feature_named, features_of, numbers}
+use Rattle.wb_metamodel.specs.Metamodel.{Metamodel, class_at, feature_at, feature_named, features_of, numbers}
 use Rattle.wb_metamodel.specs.WellFormed.{WellFormed}
 use Rattle.wb_metamodel.specs.declared.classes.Class.{Class}
 use Rattle.wb_metamodel.specs.declared.features.Feature.{Feature}
 use Rattle.wb_model.specs.declared.scalars.Scalar.{Scalar}
-use Rattle.wb_model.specs.declared.parts.Part.{Part}
 use Rattle.wb_model.specs.declared.parts.SlotPart.{SlotPart}
 use Rattle.wb_model.specs.Valid.{is_many, once}
 use Rattle.wb_model.proofs.LinkLemmas.{any_found}
@@ -25,11 +23,11 @@ use Rattle.wb_model.proofs.Members.{In, Contains-In, map-In}
 use Rattle.wb_model.proofs.Members.In.{here, there}
 use Rattle.wb_model_json.specs.declared.model_text.SlotText.{SlotText}
 use Rattle.wb_model_json.specs.declared.model_text.ObjectText.{ObjectText}
-use Rattle.wb_model_json.specs.ModelFile.{values_for, feature_for, slot_with, slot_named, slot_for, slots_for, feature_of, has_repeat, part_with, part_for}
+use Rattle.wb_model_json.specs.ModelFile.{values_for, slot_with, slot_named, slot_for, slots_for, feature_of, has_repeat, part_with, part_for}
 use Rattle.wb_model_json.specs.ModelText.{slot_of}
 use Rattle.wb_model_json.specs.Refusals.{◌>>=◌}
 use Rattle.wb_model_json.specs.Sayable.{is_sayable}
-use Rattle.wb_model_json.specs.Written.{class_name, feature_name, slot_data}
+use Rattle.wb_model_json.specs.Written.{slot_data}
 use Rattle.wb_model_json.proofs.ByName.{Ascend, IsBelowEach}
 use Rattle.wb_model_json.proofs.Unrepeated.{once-has_repeat}
 use Rattle.wb_model_json.proofs.WrittenForms.{in_turn-made}

@@ -1,7 +1,5 @@
 use Rattle.std.proofs.Common.{◌∙◌}
 use Rattle.serde_json.specs.View.{view}
-use Rattle.wb_json.specs.Form.{Gives}
-use Rattle.wb_model_json.specs.declared.rows.ObjectRow.{ObjectRow}
 use Rattle.wb_model_json.proofs.RowsAgain.{none-read, other-text, same-text}
 use Rattle.wb_model_json.proofs.RowsSound.{row-known, row-sound}
 use Rattle.wb_model_json.proofs.row_reading.written_row.Goals as goal
