@@ -41,7 +41,6 @@ pub data Reading (A : Type 0) : Type 0 where
   look : (c : Cell) → (Content c → Reading A) → Reading A
 
 infixl 20 ◌>>=◌
-
 -- one reading after another, which goes on with what the first gives
 unfoldable pub ◌>>=◌ : {A B : Type 0} → Reading A → (A → Reading B) → Reading B
 ◌>>=◌ (done x) next = next x

@@ -33,6 +33,12 @@ Gives ran (Ok x) reads = ran ≡ record { gave = Ok x; reads = reads }
 Gives ran (Err (s.Fault fault)) reads = ran ≡ record { gave = Err fault; reads = reads }
 Gives ran (Err s.NoMemory) reads = ⊤
 
+-- the same where what was given stands in a place, as a list that grows
+abbrev pub Leaves : {A B : Type 0} → Ran A → Result B Stop → A → List Cell → Type 0
+Leaves ran (Ok _) x reads = ran ≡ record { gave = Ok x; reads = reads }
+Leaves ran (Err (s.Fault fault)) x reads = ran ≡ record { gave = Err fault; reads = reads }
+Leaves ran (Err s.NoMemory) x reads = ⊤
+
 -- the run gave this answer
 abbrev pub answered : Answer → Result Value Fault
 answered (a.Value value) = Ok value

@@ -50,6 +50,7 @@ impl Gathered {
     }
 
     /// Puts a value last: of a collection each member, of null none.
+    #[tactic(auto, unfolding(crate::specs::Values::put))]
     pub fn put(&mut self, value: Value) -> Result<(), Stop>
         ensures sort { OnOk result (self.new.0 ≡ self.old.0) }
         ensures put { Became result (put self.old.0 self.old.1 value) self.new.1 }
@@ -61,6 +62,7 @@ impl Gathered {
         Ok(())
     }
 
+    #[tactic(auto, unfolding(crate::specs::Values::with_members))]
     fn put_unchecked(&mut self, value: Value) -> Result<(), AllocError>
         ensures { OnOk result (self.new ≡ (self.old.0, with_members self.old.0 self.old.1 (members value))) }
     {
@@ -72,6 +74,7 @@ impl Gathered {
         }
     }
 
+    #[tactic(auto, unfolding(crate::specs::Values::with_members))]
     fn put_all(&mut self, xs: List<Scalar>) -> Result<(), AllocError>
         ensures { OnOk result (self.new ≡ (self.old.0, with_members self.old.0 self.old.1 xs)) }
     {

@@ -14,5 +14,5 @@ pub use gathered::Gathered;
 pub use lifting::{OnScalars, lift};
 pub use looks::look_at_class;
 pub use reads::Reads;
-pub use text_forms::{join_forms, text_form};
+pub use text_forms::{join_forms, push_form, push_scalar, text_form};
 pub use values::{Answer, Sort, Value, are_same};

@@ -1,11 +1,11 @@
-ghost use Rattle.std.specs.Prelude.{◌≡◌, true};
+ghost use Rattle.std.specs.Prelude.{◌≡◌, true, OnOk};
 ghost use Rattle.std.specs.List.{list_all};
 ghost use Rattle.wb_metamodel.specs.Metamodel.{Metamodel};
 ghost use Rattle.wb_model.specs.declared.scalars.Scalar.{Scalar};
 ghost use Rattle.wb_aql_values.specs.declared.values.Value.{Value};
 ghost use Rattle.wb_aql_values.specs.Bounds.{IsBounded, is_bounded};
-ghost use Rattle.wb_aql_values.specs.Readings.{Reading, contents, lifted, of_each};
-ghost use Rattle.wb_aql_values.specs.Runs.{Gives, run};
+ghost use Rattle.wb_aql_values.specs.Readings.{Reading, contents, gather, lifted, of_each};
+ghost use Rattle.wb_aql_values.specs.Runs.{Gives, Leaves, run};
 
 use crate::faults::Stop;
 use crate::gathered::Gathered;
@@ -18,6 +18,7 @@ use wb_model::{Model, Scalar};
 pub trait OnScalars {
     // What is looked at for a scalar, or for null, and what it gives.
     ghost on_scalar: { Self → Metamodel → Scalar → Reading Value };
+
     ghost on_null: { Self → Metamodel → Reading Value };
 
     // What the function needs of the metamodel.
@@ -58,7 +59,14 @@ pub fn lift<F: OnScalars>(
             of_each(alloc, function, Sort::Sequence, xs.as_slice(), model, reads)
         }
         Value::OrderedSet(xs) => {
-            of_each(alloc, function, Sort::OrderedSet, xs.as_slice(), model, reads)
+            of_each(
+                alloc,
+                function,
+                Sort::OrderedSet,
+                xs.as_slice(),
+                model,
+                reads,
+            )
         }
     }
 }
@@ -91,7 +99,12 @@ fn gather<F: OnScalars>(
     x: &Scalar,
     model: &Model,
     reads: &mut Reads,
-) -> Result<(), Stop> {
+) -> Result<(), Stop>
+    requires needs { F.Needs function.now model.now.metamodel }
+    requires bounded { is_bounded model.now.metamodel x.now ≡ true }
+    ensures sort { OnOk result (gathered.new.0 ≡ gathered.old.0) }
+    ensures members { Leaves (run (gather gathered.old.0 (F.on_scalar function.now model.now.metamodel) gathered.old.1 x.now) (contents model.now) reads.old) result gathered.new.1 reads.new }
+{
     let value = function.of_scalar(alloc, x, model, reads)?;
     gathered.put(value)
 }

@@ -22,11 +22,10 @@ pub fn text_form(
     ensures { IfOk result (λ form. form ≡ text_form metamodel.now value.now) }
 {
     let mut form = String::new(alloc);
-    if push_value(&mut form, value, metamodel)? {
-        Ok(Some(Text::from_string(form)))
-    } else {
-        Ok(None)
+    if !push_form(&mut form, value, metamodel)? {
+        return Ok(None);
     }
+    Ok(Some(Text::from_string(form)))
 }
 
 /// The text forms of two values, one after the other; none where they have more than 65,536 bytes together.
@@ -41,46 +40,62 @@ pub fn join_forms(
     ensures { IfOk result (λ text. text ≡ joined_forms metamodel.now a.now b.now) }
 {
     let mut form = String::new(alloc);
-    if push_value(&mut form, a, metamodel)? && push_value(&mut form, b, metamodel)? {
-        Ok(Some(Text::from_string(form)))
-    } else {
-        Ok(None)
+    if !push_form(&mut form, a, metamodel)? {
+        return Ok(None);
     }
+    if !push_form(&mut form, b, metamodel)? {
+        return Ok(None);
+    }
+    Ok(Some(Text::from_string(form)))
 }
 
-// Puts the form of a value last, or else finds that the text gets too long.
-fn push_value(form: &mut String, value: &Value, metamodel: &Metamodel) -> Result<bool, AllocError>
-    requires bounded { IsBounded metamodel.now value.now }
-    requires short { length (string_bytes form.old) ≤ 65536 }
+/// Puts the form of a value behind a text, where both have at most 65,536 bytes together; else it answers no.
+pub fn push_form(
+    form: &mut String,
+    value: &Value,
+    metamodel: &Metamodel,
+) -> Result<bool, AllocError>
+    requires { IsBounded metamodel.now value.now }
     ensures { IfOk result (λ fits. Extends fits (string_bytes form.old ++ full_form metamodel.now value.now) (string_bytes form.new)) }
 {
-    let Some((first, rest)) = value.members().split_first() else {
-        return Ok(true);
-    };
-    push_scalar(form, first, metamodel)?;
-    if form.len() > MAX_TEXT {
-        return Ok(false);
+    let members = value.members();
+    match members.split_first() {
+        Some((first, rest)) => {
+            push_scalar(form, first, metamodel)?;
+            push_rest(form, rest, metamodel)
+        }
+        None => push_rest(form, members, metamodel),
     }
-    push_rest(form, rest, metamodel)
 }
 
 // Puts the forms of further members last, each after a comma and a space.
 fn push_rest(form: &mut String, xs: &[Scalar], metamodel: &Metamodel) -> Result<bool, AllocError>
-    requires bounded { list_all (is_bounded metamodel.now) xs.now ≡ true }
-    requires short { length (string_bytes form.old) ≤ 65536 }
+    requires { list_all (is_bounded metamodel.now) xs.now ≡ true }
     ensures { IfOk result (λ fits. Extends fits (string_bytes form.old ++ flat_map (next_form metamodel.now) xs.now) (string_bytes form.new)) }
 {
     for x in xs {
-        form.push_str(", ")?;
-        push_scalar(form, x, metamodel)?;
         if form.len() > MAX_TEXT {
             return Ok(false);
         }
+        push_next(form, x, metamodel)?;
+    }
+    if form.len() > MAX_TEXT {
+        return Ok(false);
     }
     Ok(true)
 }
 
-fn push_scalar(form: &mut String, x: &Scalar, metamodel: &Metamodel) -> Result<(), AllocError>
+// Puts the form of a member last, after a comma and a space.
+fn push_next(form: &mut String, x: &Scalar, metamodel: &Metamodel) -> Result<(), AllocError>
+    requires { is_bounded metamodel.now x.now ≡ true }
+    ensures { OnOk result (string_bytes form.new ≡ string_bytes form.old ++ next_form metamodel.now x.now) }
+{
+    form.push_str(", ")?;
+    push_scalar(form, x, metamodel)
+}
+
+/// Puts the form of a scalar behind a text.
+pub fn push_scalar(form: &mut String, x: &Scalar, metamodel: &Metamodel) -> Result<(), AllocError>
     requires { is_bounded metamodel.now x.now ≡ true }
     ensures { OnOk result (string_bytes form.new ≡ string_bytes form.old ++ scalar_form metamodel.now x.now) }
 {
