@@ -1,0 +1,51 @@
+-- What a reading gives over a model, and the cells that it looks at, in the order of the first look.
+use Rattle.std.specs.Prelude.{◌≡◌, ⊤, List, [], ◌∷◌, ◌++◌, Result, Ok, Err, if◌then◌else◌}
+use Rattle.std.specs.List.{list_any}
+use Rattle.wb_model.specs.declared.scalars.Scalar.{Scalar}
+use Rattle.wb_model.specs.declared.scalars.Cell.{Cell}
+use Rattle.wb_aql_values.specs.declared.faults.Fault.{Fault}
+use Rattle.wb_aql_values.specs.declared.faults.Stop.{Stop}
+use Rattle.wb_aql_values.specs.declared.faults.Stop.TheVariants as s
+use Rattle.wb_aql_values.specs.declared.values.Value.{Value}
+use Rattle.wb_aql_values.specs.declared.values.Answer.{Answer}
+use Rattle.wb_aql_values.specs.declared.values.Answer.TheVariants as a
+use Rattle.wb_aql_values.specs.Cells.{same_cell}
+use Rattle.wb_aql_values.specs.Readings.{Content, Reading, done, fail, look}
+
+-- the cells read so far with one more: it goes last, unless it is there
+abbrev pub with_read : List Cell → Cell → List Cell
+with_read reads c = if list_any (same_cell c) reads then reads else reads ++ c ∷ []
+
+-- a run: what was given, and all cells read so far
+pub record Ran (A : Type 0) : Type 0 where
+  pub gave : Result A Fault
+  pub reads : List Cell
+
+-- a reading carried out over the contents of a model's cells, after these reads
+unfoldable pub run : {A : Type 0} → Reading A → ((c : Cell) → Content c) → List Cell → Ran A
+run (done x) m reads = record { gave = Ok x; reads = reads }
+run (fail fault) m reads = record { gave = Err fault; reads = reads }
+run (look c onward) m reads = run (onward (m c)) m (with_read reads c)
+
+-- the run gave this, and left these reads; want of memory says nothing of either
+abbrev pub Gives : {A : Type 0} → Ran A → Result A Stop → List Cell → Type 0
+Gives ran (Ok x) reads = ran ≡ record { gave = Ok x; reads = reads }
+Gives ran (Err (s.Fault fault)) reads = ran ≡ record { gave = Err fault; reads = reads }
+Gives ran (Err s.NoMemory) reads = ⊤
+
+-- the same where what was given stands in a place, as a list that grows
+abbrev pub Leaves : {A B : Type 0} → Ran A → Result B Stop → A → List Cell → Type 0
+Leaves ran (Ok _) x reads = ran ≡ record { gave = Ok x; reads = reads }
+Leaves ran (Err (s.Fault fault)) x reads = ran ≡ record { gave = Err fault; reads = reads }
+Leaves ran (Err s.NoMemory) x reads = ⊤
+
+-- the run gave this answer
+abbrev pub answered : Answer → Result Value Fault
+answered (a.Value value) = Ok value
+answered (a.Fault fault) = Err fault
+
+-- what was put together became this list, or the fault; want of memory says nothing of it
+abbrev pub Became : Result Unit Stop → Result (List Scalar) Fault → List Scalar → Type 0
+Became (Ok _) expected xs = expected ≡ Ok xs
+Became (Err (s.Fault fault)) expected xs = expected ≡ Err fault
+Became (Err s.NoMemory) expected xs = ⊤
