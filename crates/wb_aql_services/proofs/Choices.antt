@@ -1,12 +1,12 @@
 -- Runs of readings that go on by what stands there.
-use Rattle.std.proofs.Common.{◌≡◌, List, Option, Some, None, Result, Ok, Err, refl, sym, ap, subst, ◌∙◌}
+use Rattle.std.proofs.Common.{◌≡◌, List, Option, Some, None, Result, Ok, Err, sym, ap, subst, ◌∙◌}
 use Rattle.std.specs.Option.{option_map_or}
 use Rattle.wb_model.specs.declared.scalars.Scalar.{Scalar}
 use Rattle.wb_model.specs.declared.scalars.Cell.{Cell}
 use Rattle.wb_aql_values.specs.declared.faults.Stop.{Stop}
 use Rattle.wb_aql_values.specs.declared.faults.Fault.{Fault}
 use Rattle.wb_aql_values.specs.declared.faults.Stop.TheVariants as s
-use Rattle.wb_aql_values.specs.Readings.{Content, Reading, done, held, given, ◌>>=◌}
+use Rattle.wb_aql_values.specs.Readings.{Content, Reading, held, given, ◌>>=◌}
 use Rattle.wb_aql_values.specs.Runs.{Ran, run, with_read, Gives, Became}
 
 -- what another run gave that is the same

@@ -1,5 +1,5 @@
 -- What starts by looking at the class of an object.
-use Rattle.std.proofs.Common.{◌≡◌, ℕ, true, false, List, [], ◌∷◌, ◌++◌, Option, Some, None, Result, Ok, Err, refl, sym, ap, subst, ◌∙◌, if◌then◌else◌}
+use Rattle.std.proofs.Common.{◌≡◌, ℕ, true, false, List, [], ◌∷◌, ◌++◌, Option, Some, None, Ok, Err, ap, ◌∙◌, if◌then◌else◌}
 use Rattle.std.specs.Option.{option_map_or}
 use Rattle.wb_metamodel.specs.Metamodel.{Metamodel}
 use Rattle.wb_model.specs.declared.scalars.Scalar.{Scalar}
@@ -9,7 +9,7 @@ use Rattle.wb_model.specs.declared.scalars.Cell.TheVariants.{Kind}
 use Rattle.wb_model.specs.Contents.{Contents, kind}
 use Rattle.wb_aql_values.specs.declared.faults.Stop.{Stop}
 use Rattle.wb_aql_values.specs.Readings.{Content, contents, Reading, done, held, ◌>>=◌, class_of}
-use Rattle.wb_aql_values.specs.Runs.{Ran, run, with_read, Gives}
+use Rattle.wb_aql_values.specs.Runs.{run, with_read, Gives}
 use Rattle.wb_aql_values.proofs.RunLemmas.{followed, stopped}
 use Rattle.wb_aql_services.proofs.Choices.{as_given, at_some, at_none, noted}
 use Rattle.wb_aql_services.specs.Types.{object_in, is_of, keep}

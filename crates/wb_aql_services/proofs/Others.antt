@@ -1,12 +1,12 @@
 -- The services that no line of a definition names.
-use Rattle.std.proofs.Common.{◌≡◌, ℕ, List, Option, Ok, refl}
+use Rattle.std.proofs.Common.{◌≡◌, ℕ, Option, refl}
 use Rattle.wb_metamodel.specs.Metamodel.{Metamodel}
 use Rattle.wb_model.specs.declared.scalars.Scalar.{Scalar}
 use Rattle.wb_aql_check.specs.declared.services.Service.{Service}
 use Rattle.wb_aql_check.specs.declared.services.Service.TheVariants as s
 use Rattle.wb_aql_values.specs.declared.values.Value.{Value}
 use Rattle.wb_aql_values.specs.declared.values.Value.TheVariants.{Null}
-use Rattle.wb_aql_values.specs.Readings.{Reading, done, lifted}
+use Rattle.wb_aql_values.specs.Readings.{done, lifted}
 use Rattle.wb_aql_services.specs.Navigation.{from_object, of_object}
 use Rattle.wb_aql_services.specs.Services.{on_scalar, on_null, on_receiver}
 

@@ -1,17 +1,15 @@
 -- Objects that are put into a sequence.
-use Rattle.std.proofs.Common.{◌≡◌, ℕ, suc, ◌<◌, ◌≤◌, true, false, List, [], ◌∷◌, Option, Some, None, Result, Ok, Err, length, map, nat_le, refl, sym, ap, subst, ◌∙◌, arith, if◌then◌else◌}
+use Rattle.std.proofs.Common.{◌≡◌, ℕ, suc, ◌<◌, ◌≤◌, List, [], ◌∷◌, Option, Some, Ok, Err, length, map, refl, sym, ap, subst, ◌∙◌, if◌then◌else◌}
 use Rattle.std.proofs.lemmas.Bool.{le-leb, lt-leb}
 use Rattle.wb_metamodel.specs.Metamodel.{Metamodel}
 use Rattle.wb_model.specs.declared.scalars.Scalar.{Scalar}
 use Rattle.wb_model.specs.declared.scalars.Scalar.TheVariants.{Object}
 use Rattle.wb_model.specs.declared.scalars.Cell.{Cell}
-use Rattle.wb_aql_values.specs.declared.faults.Fault.{Fault}
 use Rattle.wb_aql_values.specs.declared.faults.Fault.TheVariants.{TooLong}
 use Rattle.wb_aql_values.specs.declared.values.Value.{Value}
 use Rattle.wb_aql_values.specs.declared.values.Value.TheVariants.{Sequence}
-use Rattle.wb_aql_values.specs.Values.{short}
 use Rattle.wb_aql_values.specs.Readings.{Content, Reading, done, given, ◌>>=◌}
-use Rattle.wb_aql_values.specs.Runs.{Ran, run}
+use Rattle.wb_aql_values.specs.Runs.{run}
 use Rattle.wb_aql_services.specs.Types.{narrowed}
 use Rattle.wb_aql_services.specs.Navigation.{sequence, e_container, nearest, height}
 

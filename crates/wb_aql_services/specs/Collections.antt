@@ -1,5 +1,5 @@
 -- The services of collections. A scalar receiver is an ordered set of one, and null an empty one.
-use Rattle.std.specs.Prelude.{ℕ, ℤ, pos, suc, zero, Bool, true, false, not, nat_eq, ◌-◌, List, [], ◌∷◌, filter, length, slice_get, Option, None, Some}
+use Rattle.std.specs.Prelude.{ℕ, ℤ, pos, suc, Bool, false, not, nat_eq, ◌-◌, List, [], ◌∷◌, filter, length, slice_get, Option, None, Some}
 use Rattle.std.specs.Option.{option_map_or}
 use Rattle.wb_metamodel.specs.Metamodel.{Metamodel}
 use Rattle.wb_model.specs.declared.scalars.Scalar.{Scalar}
@@ -11,7 +11,7 @@ use Rattle.wb_aql_values.specs.declared.values.Value.{Value}
 use Rattle.wb_aql_values.specs.declared.values.Value.TheVariants.{Null, One}
 use Rattle.wb_aql_values.specs.Values.{members, sort_of, collection, has, put}
 use Rattle.wb_aql_values.specs.Readings.{Reading, done, fail, ◌>>=◌, given}
-use Rattle.wb_aql_services.specs.Types.{kept, truth}
+use Rattle.wb_aql_services.specs.Types.{kept}
 
 -- a member, or null where there is none
 abbrev pub member_or_null : Option Scalar → Value

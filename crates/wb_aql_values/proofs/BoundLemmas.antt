@@ -1,9 +1,9 @@
 -- What is put together stays within its bounds, and so does what a run gives.
-use Rattle.std.proofs.Common.{◌≡◌, ℕ, ◌≤◌, Bool, true, false, not, ◌&&◌, ◌||◌, List, [], ◌∷◌, ◌++◌, length, Result, Ok, Err, refl, sym, ap, subst, ◌∙◌, arith, if◌then◌else◌}
+use Rattle.std.proofs.Common.{◌≡◌, ℕ, ◌≤◌, Bool, true, false, not, ◌&&◌, ◌||◌, List, [], ◌∷◌, ◌++◌, length, Result, Ok, Err, refl, sym, subst, ◌∙◌, arith, if◌then◌else◌}
 use Rattle.std.proofs.lemmas.Bool.{leb-true, true≢false, and_parts, and_from, or_parts, or_from, not_from_false, not-true}
 use Rattle.std.proofs.lemmas.List.{length-append, append_assoc}
 use Rattle.std.proofs.lemmas.List.Folds.{list_any-append, list_all-append}
-use Rattle.std.specs.Prelude.{⊤, nat_le, IfOk, filter, map, slice_get}
+use Rattle.std.specs.Prelude.{⊤, nat_le, IfOk, filter}
 use Rattle.std.specs.List.{list_any, list_all}
 use Rattle.wb_metamodel.specs.Metamodel.{Metamodel}
 use Rattle.wb_model.specs.declared.scalars.Scalar.{Scalar}
@@ -17,11 +17,11 @@ use Rattle.wb_aql_values.specs.declared.values.Sort.{Sort}
 use Rattle.wb_aql_values.specs.declared.values.Sort.TheVariants as sort
 use Rattle.wb_aql_values.specs.declared.values.Value.{Value}
 use Rattle.wb_aql_values.specs.declared.values.Value.TheVariants.{Null, One, Sequence, OrderedSet}
-use Rattle.wb_aql_values.specs.Values.{members, collection, has, with_member, with_members, short, put}
+use Rattle.wb_aql_values.specs.Values.{members, collection, has, with_member, with_members, put}
 use Rattle.wb_aql_values.specs.Bounds.{is_bounded, AreBounded, IsBounded}
 use Rattle.wb_aql_values.specs.Readings.{Content, Reading, ◌>>=◌, each, given, done, gather, of_each, lifted}
 use Rattle.wb_aql_values.specs.Runs.{Ran, run}
-use Rattle.wb_aql_values.proofs.RunLemmas.{onward, goes_on, run_done}
+use Rattle.wb_aql_values.proofs.RunLemmas.{onward, goes_on}
 
 -- ---- members that differ
 

@@ -1,5 +1,5 @@
 -- Two cells are equal exactly where they are the same.
-use Rattle.std.proofs.Common.{◌≡◌, Bool, refl, rules}
+use Rattle.std.proofs.Common.{◌≡◌, rules}
 use Rattle.wb_model.specs.declared.scalars.Cell.{Cell}
 use Rattle.wb_model.specs.declared.scalars.Cell.TheVariants.{Kind, Slot, Holder, Tree, Inverse, Extent, Roots}
 use Rattle.wb_model.specs.contracts.scalars.CellPartialEq.TheImpl.{eq-value}

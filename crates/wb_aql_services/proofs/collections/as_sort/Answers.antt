@@ -1,7 +1,7 @@
 use Rattle.std.proofs.Common.{◌≡◌, [], Ok, Err, sym, ap, subst, ◌∙◌}
 use Rattle.wb_aql_values.specs.Values.{collection, put}
 use Rattle.wb_aql_values.specs.Readings.{contents, done, given}
-use Rattle.wb_aql_values.specs.Runs.{Became, run}
+use Rattle.wb_aql_values.specs.Runs.{Became}
 use Rattle.wb_aql_values.proofs.RunLemmas.{followed, returned, run_done, stopped}
 use Rattle.wb_aql_services.specs.Collections.{as_sort}
 use Rattle.wb_aql_services.proofs.Choices.{became_run, became_stopped}

@@ -1,7 +1,7 @@
 use Rattle.std.proofs.Common.{◌≡◌, [], Ok, Err, sym, ap, subst, ◌∙◌}
 use Rattle.wb_aql_values.specs.Values.{collection, put, sort_of}
 use Rattle.wb_aql_values.specs.Readings.{contents, done, given, ◌>>=◌}
-use Rattle.wb_aql_values.specs.Runs.{Became, run}
+use Rattle.wb_aql_values.specs.Runs.{Became}
 use Rattle.wb_aql_values.proofs.RunLemmas.{followed, gives_next, returned, run_done, stopped}
 use Rattle.wb_aql_services.specs.Collections.{including}
 use Rattle.wb_aql_services.proofs.Choices.{became_run, became_stopped}

@@ -1,8 +1,8 @@
-use Rattle.std.proofs.Common.{◌≡◌, ◌+◌, [], ◌∷◌, Err, drop, refl, sym, ap, subst, ◌∙◌, arith}
+use Rattle.std.proofs.Common.{◌≡◌, ◌+◌, [], ◌∷◌, Err, drop, refl, sym, ap, ◌∙◌, arith}
 use Rattle.std.proofs.lemmas.List.{drop_more, drop_all}
 use Rattle.wb_metamodel.specs.Metamodel.{features_of}
 use Rattle.wb_aql_values.specs.Readings.{contents, each}
-use Rattle.wb_aql_values.specs.Runs.{Gives, run}
+use Rattle.wb_aql_values.specs.Runs.{run}
 use Rattle.wb_aql_values.proofs.RunLemmas.{returned, nothing_left, loop_next, loop_stopped, loop_done}
 use Rattle.wb_aql_services.specs.Navigation.{content, with_slot}
 use Rattle.wb_aql_services.proofs.Choices.{as_given}

@@ -1,14 +1,12 @@
-use Rattle.std.proofs.Common.{◌≡◌, ℕ, [], Ok, Err, List, Result, map, sym, ap, subst, ◌∙◌}
-use Rattle.wb_model.specs.declared.scalars.Scalar.{Scalar}
+use Rattle.std.proofs.Common.{◌≡◌, ℕ, [], Ok, Err, map, sym, ap, subst, ◌∙◌}
 use Rattle.wb_model.specs.declared.scalars.Scalar.TheVariants.{Object}
 use Rattle.wb_model.specs.declared.scalars.Cell.TheVariants.{Inverse}
 use Rattle.wb_model.specs.Cells.{inverse}
-use Rattle.wb_aql_values.specs.declared.faults.Fault.{Fault}
 use Rattle.wb_aql_values.specs.declared.values.Sort.TheVariants as sort
 use Rattle.wb_aql_values.specs.declared.values.Value.TheVariants.{Sequence, OrderedSet}
 use Rattle.wb_aql_values.specs.Values.{collection, put}
 use Rattle.wb_aql_values.specs.Readings.{contents, done, given, ◌>>=◌}
-use Rattle.wb_aql_values.specs.Runs.{Became, run}
+use Rattle.wb_aql_values.specs.Runs.{Became}
 use Rattle.wb_aql_values.proofs.RunLemmas.{followed, returned, run_done, stopped}
 use Rattle.wb_aql_services.specs.Navigation.{e_inverse}
 use Rattle.wb_aql_services.proofs.Choices.{as_given, became_run, became_stopped, noted}

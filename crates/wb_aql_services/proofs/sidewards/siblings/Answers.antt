@@ -1,10 +1,9 @@
-use Rattle.std.proofs.Common.{◌≡◌, Err, [], sym, ap, subst, ◌∙◌}
+use Rattle.std.proofs.Common.{◌≡◌, [], ap, subst, ◌∙◌}
 use Rattle.wb_aql_values.specs.Readings.{contents}
 use Rattle.wb_aql_values.specs.Runs.{Gives, run}
 use Rattle.wb_aql_values.proofs.RunLemmas.{gives_next, returned, stopped}
 use Rattle.std.proofs.Common.{None}
 use Rattle.std.specs.Prelude.{filter, not, nat_eq}
-use Rattle.std.specs.List.{before_first, after_first}
 use Rattle.wb_aql_services.specs.Navigation.{beside, siblings, sequence}
 use Rattle.wb_aql_services.proofs.sidewards.siblings.Goals as goal
 

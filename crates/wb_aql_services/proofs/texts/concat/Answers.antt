@@ -3,7 +3,7 @@ use Rattle.wb_model.specs.declared.scalars.Scalar.TheVariants.{Text}
 use Rattle.wb_aql_values.specs.declared.values.Value.TheVariants.{One}
 use Rattle.wb_aql_values.specs.Readings.{contents, done, given, ◌>>=◌}
 use Rattle.wb_aql_values.specs.Runs.{run}
-use Rattle.wb_aql_values.specs.TextForms.{Extends, full_form, bounded_text, made}
+use Rattle.wb_aql_values.specs.TextForms.{Extends, full_form, made}
 use Rattle.wb_aql_values.proofs.FormLemmas.{none_of, some_of}
 use Rattle.wb_aql_services.specs.Texts.{concat}
 use Rattle.wb_aql_services.proofs.texts.concat.Goals as goal

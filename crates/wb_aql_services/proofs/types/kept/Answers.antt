@@ -1,7 +1,6 @@
 use Rattle.std.proofs.Common.{◌≡◌, ◌+◌, [], ◌∷◌, drop, refl, sym, ap, ◌∙◌, arith}
 use Rattle.std.proofs.lemmas.List.{drop_more, drop_all}
-use Rattle.wb_aql_values.specs.Readings.{contents, each}
-use Rattle.wb_aql_values.specs.Runs.{run}
+use Rattle.wb_aql_values.specs.Readings.{contents}
 use Rattle.wb_aql_values.proofs.RunLemmas.{returned, nothing_left, loop_next, loop_stopped, loop_done}
 use Rattle.wb_aql_services.specs.Types.{keep, kept}
 use Rattle.wb_aql_services.proofs.types.kept.Goals as goal

@@ -1,4 +1,4 @@
-use Rattle.std.proofs.Common.{◌≡◌, ◌++◌, string_bytes, ap, subst}
+use Rattle.std.proofs.Common.{◌≡◌, ◌++◌, string_bytes, subst}
 use Rattle.wb_aql_values.specs.TextForms.{Extends, full_form, joined_forms}
 use Rattle.wb_aql_values.proofs.FormLemmas.{none_of, none_of_longer, some_of, written_whole}
 use Rattle.wb_aql_values.proofs.text_forms.join_forms.Goals as goal

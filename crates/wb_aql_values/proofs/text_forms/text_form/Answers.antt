@@ -1,4 +1,4 @@
-use Rattle.std.proofs.Common.{◌++◌, string_bytes, ap, subst}
+use Rattle.std.proofs.Common.{◌++◌, string_bytes, subst}
 use Rattle.wb_aql_values.specs.TextForms.{Extends, full_form, text_form}
 use Rattle.wb_aql_values.proofs.FormLemmas.{none_of, some_of}
 use Rattle.wb_aql_values.proofs.text_forms.text_form.Goals as goal
