@@ -92,9 +92,10 @@ slot_held m v o f = one (slot m o f) refl
         let short = subst (λ ys. nat_le (length ys) (room m.metamodel f) ≡ true) e (at_slot m (λ o f values. nat_le (length values) (room m.metamodel f)) v.slots_have_room o f x first) in
         let kinds = subst (λ ys. list_all (is_of_feature m f) ys ≡ true) e (at_slot m (λ o f values. list_all (is_of_feature m f) values) v.values_are_of_kinds o f x first) in
         let few = le_of_test _ _ short in
-        let roomy = room_below m.metamodel f in
-        (record { few = omega arith; bounded = bounded_all m f (x ∷ xs) kinds },
-          subst (λ ys. differ ys ≡ true) e (at_slot m (λ o f values. differ values) v.values_differ o f x first))
+        let roomy = room_below m.metamodel f in (
+          record { few = omega arith; bounded = bounded_all m f (x ∷ xs) kinds },
+          subst (λ ys. differ ys ≡ true) e (at_slot m (λ o f values. differ values) v.values_differ o f x first),
+        )
 
 pub valid_held : (m : Contents) → IsValid m → (c : Cell) → AreHeld m.metamodel c (contents m c)
 unfolding IsValid

@@ -21,7 +21,7 @@ use Rattle.wb_aql_services.specs.Collections as c
 use Rattle.wb_aql_services.specs.Texts as x
 use Rattle.wb_aql_services.specs.Types as y
 use Rattle.wb_aql_values.specs.declared.faults.Fault.{Fault}
-use Rattle.wb_aql_values.specs.declared.faults.Fault.TheVariants.{TooLong}
+use Rattle.wb_aql_values.specs.declared.faults.Fault.TheVariants.{TooLong, NotInt}
 use Rattle.wb_aql_values.specs.declared.values.Sort.{Sort}
 use Rattle.wb_aql_values.specs.declared.values.Sort.TheVariants as sort
 use Rattle.wb_aql_values.specs.declared.values.Value.{Value}
@@ -53,7 +53,7 @@ among_more before xs ys zs x (inl e) a = record { some = a.some; are = left_out 
 among_more before xs ys zs x (inr e) a = record { some = x ∷ a.some; are = kept a.are; behind = a.behind ∙ (ap (λ b. b ++ a.some) e ∙ append_assoc before (x ∷ []) a.some) }
 
 module _ (mm : Metamodel) where
-  objects_bounded : (os : List ℕ) → list_all (is_bounded mm) (map Object os) ≡ true
+  pub objects_bounded : (os : List ℕ) → list_all (is_bounded mm) (map Object os) ≡ true
   objects_bounded [] = refl
   objects_bounded (o ∷ os) = objects_bounded os
 
@@ -135,6 +135,7 @@ module _ (mm : Metamodel) where
         two : (b : Bool) (p : ℕ) → B (n.nearest mm t k p) → B (if b then done (One (Object p)) else n.nearest mm t k p)
         two true p h = refl
         two false p h = h
+
         one : (holder : Option (ℕ × ℕ)) → ((p : ℕ) → B (n.nearest mm t k p)) → B (option_map_or (λ (place : ℕ × ℕ). held (Kind place.0) >>= λ kind. if y.is_of mm t kind then done (One (Object place.0)) else n.nearest mm t k place.0) holder (done Null))
         one None h = tt
         one (Some place) h = λ kind _. two (y.is_of mm t kind) place.0 (h place.0)
@@ -160,7 +161,7 @@ module _ (mm : Metamodel) where
     inverse_of o = λ pairs _.
         in_turn AreHeld (λ xs. IsBounded mm (OrderedSet xs)) (IsBounded mm) (given (put sort.OrderedSet [] (Sequence (map (λ (pair : ℕ × ℕ). Object pair.0) pairs)))) (λ xs. done (OrderedSet xs))
         (of_given AreHeld (λ xs. IsBounded mm (OrderedSet xs)) (put sort.OrderedSet [] (Sequence (map (λ (pair : ℕ × ℕ). Object pair.0) pairs)))
-          (λ xs e. put_bounded mm sort.OrderedSet [] xs (Sequence (map (λ (pair : ℕ × ℕ). Object pair.0) pairs)) (empty_bounded mm sort.OrderedSet) (sources pairs) e))
+        (λ xs e. put_bounded mm sort.OrderedSet [] xs (Sequence (map (λ (pair : ℕ × ℕ). Object pair.0) pairs)) (empty_bounded mm sort.OrderedSet) (sources pairs) e))
         (λ xs h. h)
       where
         sources : (pairs : List (ℕ × ℕ)) → list_all (is_bounded mm) (map (λ (pair : ℕ × ℕ). Object pair.0) pairs) ≡ true
@@ -238,12 +239,16 @@ module _ (mm : Metamodel) where
     put_of : (kind : Sort) (xs : List Scalar) (v : Value) → IsBounded mm (collection kind xs) → IsBounded mm v → Yields AreHeld (λ ys. IsBounded mm (collection kind ys)) (given (put kind xs v))
     put_of kind xs v h b = of_given AreHeld (λ ys. IsBounded mm (collection kind ys)) (put kind xs v) (λ ys e. bounded_put mm kind xs ys v h b e)
 
+    at_of : (place : Option ℤ) (r : Value) → IsBounded mm r → B (option_map_or (λ i. done (c.member_or_null (c.member_at i (members r)))) place (fail NotInt))
+    at_of None r h = tt
+    at_of (Some i) r h = at_bounded i (members r) (bounded_members mm r h)
+
     on_receiver_of : (service : Service) (t : Option ℕ) (v r : Value) → IsBounded mm v → IsBounded mm r → B (on_receiver mm service t v r)
     unfolding on_receiver c.filtered c.at c.including c.as_sort
     on_receiver_of s.Filter t v r b h = in_turn AreHeld (λ ys. IsSublist ys (members r)) (IsBounded mm) (y.kept mm t (members r)) (λ xs. done (collection (sort_of r) xs)) (kept_of t (members r)) (λ xs k. bounded_kept mm r xs k h)
     on_receiver_of s.First t v r b h = member_bounded (members r) 0 (bounded_members mm r h)
     on_receiver_of s.Last t v r b h = member_bounded (members r) (length (members r) - 1) (bounded_members mm r h)
-    on_receiver_of s.At t v r b h = in_turn AreHeld (λ _. ⊤) (IsBounded mm) (given (c.integer v)) (λ i. done (c.member_or_null (c.member_at i (members r)))) (anything AreHeld (given (c.integer v))) (λ i _. at_bounded i (members r) (bounded_members mm r h))
+    on_receiver_of s.At t v r b h = at_of (c.int_in v) r h
     on_receiver_of s.Size t v r b h = refl
     on_receiver_of s.IsEmpty t v r b h = refl
     on_receiver_of s.NotEmpty t v r b h = refl

@@ -8,14 +8,19 @@ use Rattle.wb_model.specs.Contents.{Contents}
 use Rattle.wb_model.specs.Cells.{extent}
 use Rattle.wb_aql_values.specs.declared.faults.Fault.{Fault}
 use Rattle.wb_aql_values.specs.declared.faults.Stop.{Stop}
+use Rattle.wb_aql_values.specs.declared.faults.Stop.TheVariants as s
 use Rattle.wb_aql_values.specs.declared.values.Sort.TheVariants as sort
 use Rattle.wb_aql_values.specs.declared.values.Value.TheVariants.{Sequence, OrderedSet}
 use Rattle.wb_aql_values.specs.Values.{put}
 use Rattle.wb_aql_values.specs.Readings.{contents, done, given, ◌>>=◌}
-use Rattle.wb_aql_values.specs.Runs.{run, with_read, Gives}
+use Rattle.wb_aql_values.specs.Runs.{run, with_read, Gives, Became}
 use Rattle.wb_aql_eval.specs.Answers.{Is}
 use Rattle.wb_aql_eval.specs.Outcomes.{objects_of}
 use Rattle.wb_aql_eval.proofs.Running.{given_next, given_stops}
+
+pub became_is : (stop : Stop) (expected : Result (List Scalar) Fault) (xs : List Scalar) → Became (Err stop) expected xs → Is expected (Err stop)
+became_is (s.Fault fault) expected xs h = h
+became_is s.NoMemory expected xs h = tt
 
 module _ (m : Contents) (class : ℕ) (old : List Cell) where
   gathered : Result (List Scalar) Fault

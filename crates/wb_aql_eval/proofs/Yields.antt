@@ -14,9 +14,15 @@ use Rattle.wb_aql_values.specs.declared.values.Value.TheVariants.{Null, One, Seq
 use Rattle.wb_aql_values.specs.Bounds.{AreBounded, IsBounded, is_bounded}
 use Rattle.wb_aql_values.specs.Values.{collection, put, members}
 use Rattle.wb_aql_values.specs.Readings.{Content, Reading, done, fail, look, given, each, gather, of_each, lifted, ◌>>=◌}
-use Rattle.wb_aql_values.specs.Runs.{run, with_read, Gives}
+use Rattle.wb_aql_values.specs.Runs.{Ran, run, with_read, Gives}
 use Rattle.wb_aql_eval.proofs.Putting.{bounded_put, empty_bounded}
 use Rattle.wb_aql_eval.proofs.Sublists.{and_both}
+
+same_given : {A : Type 0} (y x : A) → ◌≡◌ {A = Result A Fault} (Ok y) (Ok x) → y ≡ x
+same_given y x e = cc
+
+none_given : {A : Type 0} (fault : Fault) (x : A) → ◌≡◌ {A = Result A Fault} (Err fault) (Ok x) → ⊥
+none_given fault x e = cc
 
 module _ (AreHeld : (c : Cell) → Content c → Type 0) where
   abbrev pub Yields : {A : Type 0} → (A → Type 0) → Reading A → Type 0
@@ -28,8 +34,8 @@ module _ (AreHeld : (c : Cell) → Content c → Type 0) where
   pub of_run : {A : Type 0} (P : A → Type 0) (r : Reading A) (m : (c : Cell) → Content c) (old : List Cell) (x : A) (reads : List Cell) →
       ((c : Cell) → AreHeld c (m c)) → Yields P r → run r m old ≡ record { gave = Ok x; reads = reads } → P x
   unfolding run
-  of_run P (done y) m old x reads held h e = subst P (let g : y ≡ x = cc in g) h
-  of_run P (fail fault) m old x reads held h e = absurd (let g : ⊥ = cc in g)
+  of_run {A} P (done y) m old x reads held h e = subst P (same_given y x (ap (λ (ran : Ran A). ran.gave) e)) h
+  of_run {A} P (fail fault) m old x reads held h e = absurd (none_given fault x (ap (λ (ran : Ran A). ran.gave) e))
   of_run P (look c onward) m old x reads held h e = of_run P (onward (m c)) m (with_read old c) x reads held (h (m c) (held c)) e
 
   pub in_turn : {A B : Type 0} (P : A → Type 0) (Q : B → Type 0) (r : Reading A) (next : A → Reading B) → Yields P r → ((x : A) → P x → Yields Q (next x)) → Yields Q (r >>= next)
@@ -74,8 +80,8 @@ module _ (AreHeld : (c : Cell) → Content c → Type 0) where
         let P : List Scalar → Type 0 = λ ys. IsBounded mm (collection kind ys) in
         in_turn P (IsBounded mm) (each (gather kind f) [] xs) (λ ys. done (collection kind ys))
         (of_steps P (is_bounded mm) (gather kind f) [] xs
-          (λ ys x h b. in_turn (IsBounded mm) P (f x) (λ v. given (put kind ys v)) (each_bounded x b) (λ v i. of_given P (put kind ys v) (λ zs e. bounded_put mm kind ys zs v h i e)))
-          (empty_bounded mm kind) all)
+        (λ ys x h b. in_turn (IsBounded mm) P (f x) (λ v. given (put kind ys v)) (each_bounded x b) (λ v i. of_given P (put kind ys v) (λ zs e. bounded_put mm kind ys zs v h i e)))
+        (empty_bounded mm kind) all)
         (λ ys h. h)
 
     pub of_lifted : (on_null : Reading Value) → Yields (IsBounded mm) on_null → (v : Value) → IsBounded mm v → Yields (IsBounded mm) (lifted on_null f v)

@@ -1,5 +1,5 @@
 -- The services that evaluate an expression for each member of their receiver.
-use Rattle.std.specs.Prelude.{Bool, true, false, is_some, is_none, List, [], ◌∷◌, ◌++◌, Option, Some, None, if◌then◌else◌}
+use Rattle.std.specs.Prelude.{Bool, true, false, not, is_some, List, [], ◌∷◌, ◌++◌, Option, Some, None, if◌then◌else◌}
 use Rattle.std.specs.Bool.{beq}
 use Rattle.wb_model.specs.declared.scalars.Scalar.{Scalar}
 use Rattle.wb_aql_check.specs.declared.services.Iteration.{Iteration}
@@ -40,5 +40,5 @@ iterated i.Select f v = sifted f true (members v) >>= λ xs. done (collection (s
 iterated i.Reject f v = sifted f false (members v) >>= λ xs. done (collection (sort_of v) xs)
 iterated i.Collect f v = of_each (sort_of v) f (members v)
 iterated i.Exists f v = first_that f true (members v) >>= λ found. done (flag (is_some found))
-iterated i.ForAll f v = first_that f false (members v) >>= λ found. done (flag (is_none found))
+iterated i.ForAll f v = first_that f false (members v) >>= λ found. done (flag (not (is_some found)))
 iterated i.Any f v = first_that f true (members v) >>= λ found. done (or_null found)

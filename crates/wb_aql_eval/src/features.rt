@@ -33,7 +33,10 @@ impl OnScalars for FeatureNamed<'_> {
     ) -> Result<Value, Stop> {
         match x {
             Scalar::Object(o) => feature_of_object(alloc, self.name, *o, model, reads),
-            _ => Err(Stop::Fault(Fault::NotAnObject)),
+            Scalar::Int(_) => Err(Stop::Fault(Fault::NotAnObject)),
+            Scalar::Bool(_) => Err(Stop::Fault(Fault::NotAnObject)),
+            Scalar::Text(_) => Err(Stop::Fault(Fault::NotAnObject)),
+            Scalar::Literal(_, _) => Err(Stop::Fault(Fault::NotAnObject)),
         }
     }
 

@@ -52,10 +52,26 @@ pub fn eval_node<'a>(
             eval_unary(alloc, model, scope, *operator, operand.get(), reads)
         }
         Node::Binary(operator, left, right) => {
-            eval_binary(alloc, model, scope, *operator, left.get(), right.get(), reads)
+            eval_binary(
+                alloc,
+                model,
+                scope,
+                *operator,
+                left.get(),
+                right.get(),
+                reads,
+            )
         }
         Node::If(condition, yes, no) => {
-            eval_if(alloc, model, scope, condition.get(), yes.get(), no.get(), reads)
+            eval_if(
+                alloc,
+                model,
+                scope,
+                condition.get(),
+                yes.get(),
+                no.get(),
+                reads,
+            )
         }
         Node::Let(name, value, body) => {
             eval_let(alloc, model, scope, name, value.get(), body.get(), reads)
@@ -64,7 +80,16 @@ pub fn eval_node<'a>(
             eval_feature(alloc, model, scope, receiver.get(), name, reads)
         }
         Node::Call(kind, receiver, name, arguments) => {
-            eval_call(alloc, model, scope, *kind, receiver.get(), name, arguments, reads)
+            eval_call(
+                alloc,
+                model,
+                scope,
+                *kind,
+                receiver.get(),
+                name,
+                arguments,
+                reads,
+            )
         }
     }
 }
@@ -145,7 +170,13 @@ fn eval_let<'a>(
     ensures bounded { IfOk result (IsBounded model.now.metamodel) }
 {
     let value = eval_node(alloc, model, scope, value, reads)?;
-    eval_node(alloc, model, &Scope::Inner(&*scope, &*name, &value), &*body, reads)
+    eval_node(
+        alloc,
+        model,
+        &Scope::Inner(&*scope, &*name, &value),
+        &*body,
+        reads,
+    )
 }
 
 #[cycle(eval)]
@@ -221,7 +252,13 @@ fn eval_call<'a>(
 {
     let receiver = eval_node(alloc, model, scope, receiver, reads)?;
     match arguments.as_slice() {
-        [] => call(alloc, model, service_called(kind, name.as_slice()), &receiver, reads),
+        [] => call(
+            alloc,
+            model,
+            service_called(kind, name.as_slice()),
+            &receiver,
+            reads,
+        ),
         [argument] => eval_argument(alloc, model, scope, kind, &receiver, name, argument, reads),
         _ => Ok(Value::Null),
     }
@@ -248,7 +285,9 @@ fn eval_argument<'a>(
         Argument::Lambda(variable, body) => match iteration_called(kind, name.as_slice()) {
             Some(iteration) => {
                 let body = body.get();
-                eval_lambda(alloc, model, scope, iteration, variable, body, receiver, reads)
+                eval_lambda(
+                    alloc, model, scope, iteration, variable, body, receiver, reads,
+                )
             }
             None => Ok(Value::Null),
         },
@@ -258,7 +297,14 @@ fn eval_argument<'a>(
         }
         Argument::Expression(value) => {
             let value = eval_node(alloc, model, scope, value.get(), reads)?;
-            call_with_value(alloc, model, service_called(kind, name.as_slice()), receiver, value, reads)
+            call_with_value(
+                alloc,
+                model,
+                service_called(kind, name.as_slice()),
+                receiver,
+                value,
+                reads,
+            )
         }
     }
 }
@@ -296,7 +342,7 @@ fn eval_lambda<'a>(
         }
         Iteration::ForAll => {
             let found = eval_first(alloc, model, scope, variable, body, false, receiver, reads)?;
-            Ok(flag(found.is_none()))
+            Ok(flag(!found.is_some()))
         }
         Iteration::Any => {
             let found = eval_first(alloc, model, scope, variable, body, true, receiver, reads)?;
@@ -349,7 +395,16 @@ fn eval_collected<'a>(
 {
     let mut gathered = Gathered::new(alloc, receiver.sort());
     for member in receiver.members() {
-        put_member(alloc, model, scope, variable, body, member, &mut gathered, reads)?;
+        put_member(
+            alloc,
+            model,
+            scope,
+            variable,
+            body,
+            member,
+            &mut gathered,
+            reads,
+        )?;
     }
     Ok(gathered.into_value(alloc)?)
 }
@@ -437,5 +492,11 @@ fn eval_member<'a>(
     ensures bounded { IfOk result (IsBounded model.now.metamodel) }
 {
     let value = Value::One(member.copy(alloc)?);
-    eval_node(alloc, model, &Scope::Inner(&*scope, &*variable, &value), &*body, reads)
+    eval_node(
+        alloc,
+        model,
+        &Scope::Inner(&*scope, &*variable, &value),
+        &*body,
+        reads,
+    )
 }

@@ -135,12 +135,7 @@ fn operated(
 }
 
 /// Two Ints are added; where either side is a Text the text forms are joined.
-fn added(
-    alloc: Global,
-    metamodel: &Metamodel,
-    left: &Value,
-    right: &Value,
-) -> Result<Value, Stop>
+fn added(alloc: Global, metamodel: &Metamodel, left: &Value, right: &Value) -> Result<Value, Stop>
     requires left { IsBounded metamodel.now left.now }
     requires right { IsBounded metamodel.now right.now }
     ensures { Is (added metamodel.now left.now right.now) result }

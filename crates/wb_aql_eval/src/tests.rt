@@ -92,13 +92,7 @@ fn library(rt: &impl Abort, alloc: Global) -> Metamodel {
     }
 }
 
-fn create(
-    rt: &impl Abort,
-    alloc: Global,
-    model: &mut Model,
-    class: u32,
-    place: Place,
-) -> ObjectId {
+fn create(rt: &impl Abort, alloc: Global, model: &mut Model, class: u32, place: Place) -> ObjectId {
     match model.create(alloc, ClassId(class), place, &mut ChangeList::new()) {
         Ok(o) => o,
         Err(refusal) => panic!(rt; "{refusal:?}"),
@@ -127,9 +121,30 @@ fn small(rt: &impl Abort, alloc: Global) -> Result<Model, AllocError> {
     let _ = create(rt, alloc, &mut model, 3, Place::In(one, FeatureId(3)));
     let _ = create(rt, alloc, &mut model, 4, Place::In(one, FeatureId(4)));
     let _ = create(rt, alloc, &mut model, 2, Place::In(one, FeatureId(2)));
-    set(rt, alloc, &mut model, 1, 0, Scalar::Text(Text::from_str(alloc, "City")?));
-    set(rt, alloc, &mut model, 2, 6, Scalar::Text(Text::from_str(alloc, "Dune")?));
-    set(rt, alloc, &mut model, 3, 6, Scalar::Text(Text::from_str(alloc, "Emma")?));
+    set(
+        rt,
+        alloc,
+        &mut model,
+        1,
+        0,
+        Scalar::Text(Text::from_str(alloc, "City")?),
+    );
+    set(
+        rt,
+        alloc,
+        &mut model,
+        2,
+        6,
+        Scalar::Text(Text::from_str(alloc, "Dune")?),
+    );
+    set(
+        rt,
+        alloc,
+        &mut model,
+        3,
+        6,
+        Scalar::Text(Text::from_str(alloc, "Emma")?),
+    );
     set(rt, alloc, &mut model, 5, 15, Scalar::Object(ObjectId(2)));
     set(rt, alloc, &mut model, 5, 16, Scalar::Object(ObjectId(4)));
     set(rt, alloc, &mut model, 2, 9, Scalar::Object(ObjectId(6)));
@@ -234,12 +249,24 @@ fn expressions_have_their_values_and_reads(rt: HostRuntime) -> Result<(), Fail> 
         if let Some((case, wanted)) = line.split_once(" => ") {
             if let Some((object, text)) = case.split_once(" ; ") {
                 if let Some((value, reads)) = wanted.split_once(" ; ") {
-                    let o = if object == "9" { 9 } else if object == "3" { 3 } else if object == "2" { 2 } else { 1 };
+                    let o = if object == "9" {
+                        9
+                    } else if object == "3" {
+                        3
+                    } else if object == "2" {
+                        2
+                    } else {
+                        1
+                    };
                     let env = self_is(alloc, o)?;
                     let e = checked(&rt, alloc, text, &env, model.metamodel())?;
                     let mut steps: Steps<Label> = Steps::new();
                     let outcome = steps.evaluate(alloc, &e, &env, &model)?;
-                    assert_eq!(rt; show(alloc, &outcome.answer, model.metamodel())?.as_str(), value, "{text}");
+                    assert_eq!(rt;
+                        show(alloc, &outcome.answer, model.metamodel())?.as_str(),
+                        value,
+                        "{text}"
+                    );
                     if reads != ".." {
                         assert_eq!(rt; show_reads(alloc, &outcome)?.as_str(), reads, "{text}");
                     }
@@ -259,8 +286,17 @@ fn an_absent_expression_is_the_extent(rt: HostRuntime) -> Result<(), Fail> {
         values: List::new(alloc),
     };
     let mut steps: Steps<Label> = Steps::new();
-    let outcome = eval(alloc, &Checked::extent(alloc, ClassId(1)), &env, &model, &mut steps)?;
-    assert_eq!(rt; show(alloc, &outcome.answer, model.metamodel())?.as_str(), "OrderedSet{#2, #3}");
+    let outcome = eval(
+        alloc,
+        &Checked::extent(alloc, ClassId(1)),
+        &env,
+        &model,
+        &mut steps,
+    )?;
+    assert_eq!(rt;
+        show(alloc, &outcome.answer, model.metamodel())?.as_str(),
+        "OrderedSet{#2, #3}"
+    );
     assert_eq!(rt; show_reads(alloc, &outcome)?.as_str(), "Extent(1)");
     Ok(())
 }

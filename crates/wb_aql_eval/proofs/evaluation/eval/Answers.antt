@@ -7,4 +7,4 @@ returns-in-Ok-clause-outcome g c = rw c.new-reads.ensures at c.in-Ok.ensures.val
 
 pub returns-in-Err-Fault-clause-outcome : goal.returns-in-Err-Fault-clause-outcome
 unfolding outcome_of
-returns-in-Err-Fault-clause-outcome g c = rw c.new-reads.ensures at c.in-Err-Fault.ensures.value
+returns-in-Err-Fault-clause-outcome g c = rw c.new-reads.ensures at (rw c.in-Err-Fault.field-0-is at c.in-Err-Fault.ensures.value)

@@ -17,7 +17,7 @@ pub returns-in-Expr-clause-value : goal.returns-in-Expr-clause-value
 unfolding sense
 returns-in-Expr-clause-value c =
     subst (λ o. Gives (run (sense c.args.model.now.metamodel o c.args.env.now) (contents c.args.model.now) c.args.reads.now) c.eval_node.result c.eval_node.new.reads) (sym (sym c.origin.ensures.is ∙ c.in-Expr.is))
-    (rw (sym c.node.ensures.tree, sym (values_outer _)) c.eval_node.ensures.value)
+    (rw (values_outer, c.node.ensures.tree) at c.eval_node.ensures.value)
 
 pub returns-in-Extent-clause-value : goal.returns-in-Extent-clause-value
 unfolding sense

@@ -1,10 +1,11 @@
-use Rattle.std.proofs.Common.{rules, arith, ◌≡◌, ◌≤◌, ◌+◌, suc, true, false, length, [], ◌∷◌, ◌++◌, drop, take, Some, None, is_some, is_none, Ok, Err, refl, sym, ap, ◌∙◌, subst}
+use Rattle.std.proofs.Common.{rules, arith, ◌≡◌, ◌≤◌, ◌+◌, suc, true, false, length, [], ◌∷◌, ◌++◌, drop, take, Some, None, is_some, not, Option, Ok, Err, refl, sym, ap, ◌∙◌, subst}
 use Rattle.std.proofs.lemmas.List.{drop_more, drop_all, take_more, take_all}
 use Rattle.wb_aql_syntax.specs.View.{tree_of, trees_in, arguments_in}
 use Rattle.wb_aql_syntax.proofs.Nodes.{tree_collection, tree_unary, tree_binary, tree_conditional, tree_let_in, tree_feature, tree_call}
 use Rattle.wb_aql_syntax.proofs.Weights.{weight, elements_weight, arguments_weight, next_element}
 use Rattle.wb_aql_services.specs.declared.arguments.Argument.TheVariants.{Of}
 use Rattle.wb_aql_values.specs.declared.values.Value.TheVariants.{Null, One}
+use Rattle.wb_model.specs.declared.scalars.Scalar.{Scalar}
 use Rattle.wb_aql_values.specs.Bounds.{IsBounded}
 use Rattle.wb_aql_values.specs.Values.{collection, members, sort_of, put}
 use Rattle.wb_aql_values.specs.Readings.{contents, done, given, each, gather, of_each, ◌>>=◌}
@@ -182,7 +183,7 @@ eval_feature-returns-in_err-receiver-clause-value t c =
 
 pub eval_feature-returns-clause-value : goal.eval_feature-returns-clause-value
 eval_feature-returns-clause-value t c =
-    gives_next (feature_of c.args.model.now.metamodel c.args.name.now) (contents c.args.model.now) (meaning c.args.model.now.metamodel (tree_of c.args.receiver.now) (values_of c.args.scope.now)) c.args.reads.now c.in_ok-receiver.receiver c.eval_node.new.reads c.feature_of_value.result c.feature_of_value.new.reads c.in_ok-receiver.ensures.value c.feature_of_value.ensures.value
+    gives_next (feature_of c.args.model.now.metamodel c.args.name.now) (contents c.args.model.now) (meaning c.args.model.now.metamodel (tree_of c.args.receiver.now) (values_of c.args.scope.now)) c.args.reads.now c.in_ok-receiver.receiver c.eval_node.new.reads c.feature_of.result c.feature_of.new.reads c.in_ok-receiver.ensures.value c.feature_of.ensures.value
 
 -- ---- elements
 
@@ -284,7 +285,7 @@ eval_call-returns-clause-value t c =
 
 pub eval_argument-returns-in-Some-clause-value : goal.eval_argument-returns-in-Some-clause-value
 eval_argument-returns-in-Some-clause-value t c =
-    rw (c.in-Lambda.is, a_lambda, sym c.get.ensures, sym c.as_slice.ensures.same, sym c.iteration_called.ensures, c.in-Some.is) c.eval_lambda.ensures.value
+    rw (c.in-Lambda.is, a_lambda, sym c.get-body.ensures, sym c.as_slice.ensures.same, sym c.iteration_called.ensures, c.in-Some.is) c.eval_lambda.ensures.value
 
 pub eval_argument-returns-in-None-clause-value : goal.eval_argument-returns-in-None-clause-value
 eval_argument-returns-in-None-clause-value t c =
@@ -298,12 +299,12 @@ pub eval_argument-returns-in_err-value-in-Expression-clause-value : goal.eval_ar
 eval_argument-returns-in_err-value-in-Expression-clause-value t c =
     rw (c.in-Expression.is, a_value)
     (returned _ c.from_residual.result c.in_err-value-in-Expression.field-0.0 c.eval_node.new.reads c.from_residual.ensures.1
-    (stopped (λ w. serviced c.args.model.now.metamodel (service_called c.args.kind c.args.name.now) c.args.receiver.now (Of w ∷ [])) (contents c.args.model.now) (meaning c.args.model.now.metamodel (tree_of c.in-Expression.value) (values_of c.args.scope.now)) c.args.reads.now c.in_err-value-in-Expression.field-0.0 c.eval_node.new.reads (subst (λ x. Gives (run (meaning c.args.model.now.metamodel (tree_of x) (values_of c.args.scope.now)) (contents c.args.model.now) c.args.reads.now) (Err c.in_err-value-in-Expression.field-0.0) c.eval_node.new.reads) c.get-in-Expression.ensures c.in_err-value-in-Expression.ensures.value)))
+    (stopped (λ w. serviced c.args.model.now.metamodel (service_called c.args.kind c.args.name.now) c.args.receiver.now (Of w ∷ [])) (contents c.args.model.now) (meaning c.args.model.now.metamodel (tree_of c.in-Expression.value) (values_of c.args.scope.now)) c.args.reads.now c.in_err-value-in-Expression.field-0.0 c.eval_node.new.reads (subst (λ x. Gives (run (meaning c.args.model.now.metamodel (tree_of x) (values_of c.args.scope.now)) (contents c.args.model.now) c.args.reads.now) (Err c.in_err-value-in-Expression.field-0.0) c.eval_node.new.reads) c.get.ensures c.in_err-value-in-Expression.ensures.value)))
 
 pub eval_argument-returns-in_ok-value-in-Expression-clause-value : goal.eval_argument-returns-in_ok-value-in-Expression-clause-value
 eval_argument-returns-in_ok-value-in-Expression-clause-value t c =
     rw (c.in-Expression.is, a_value)
-    (gives_next (λ w. serviced c.args.model.now.metamodel (service_called c.args.kind c.args.name.now) c.args.receiver.now (Of w ∷ [])) (contents c.args.model.now) (meaning c.args.model.now.metamodel (tree_of c.in-Expression.value) (values_of c.args.scope.now)) c.args.reads.now c.in_ok-value-in-Expression.value c.eval_node.new.reads c.call_with_value.result c.call_with_value.new.reads (rw c.get-in-Expression.ensures at c.in_ok-value-in-Expression.ensures.value)
+    (gives_next (λ w. serviced c.args.model.now.metamodel (service_called c.args.kind c.args.name.now) c.args.receiver.now (Of w ∷ [])) (contents c.args.model.now) (meaning c.args.model.now.metamodel (tree_of c.in-Expression.value) (values_of c.args.scope.now)) c.args.reads.now c.in_ok-value-in-Expression.value c.eval_node.new.reads c.call_with_value.result c.call_with_value.new.reads (rw c.get.ensures at c.in_ok-value-in-Expression.ensures.value)
     (rw (c.service_called.ensures, c.as_slice-in-Expression.ensures.same) at c.call_with_value.ensures.value))
 
 -- ---- services with a lambda
@@ -328,26 +329,26 @@ unfolding iterated
 eval_lambda-returns-in_err-found-in-Exists-clause-value t c =
     rw c.in-Exists.is
     (returned _ c.from_residual.result c.in_err-found-in-Exists.field-0.0 c.eval_first.new.reads c.from_residual.ensures.1
-    (stopped (λ found. done ((λ found. flag (is_some found)) found)) (contents c.args.model.now) (first_that (of_member c.args.model.now.metamodel (tree_of c.args.body.now) c.args.variable.now (values_of c.args.scope.now)) true (members c.args.receiver.now)) c.args.reads.now c.in_err-found-in-Exists.field-0.0 c.eval_first.new.reads c.in_err-found-in-Exists.ensures.value))
+    (stopped (λ found. done ((λ (found : Option Scalar). flag (is_some found)) found)) (contents c.args.model.now) (first_that (of_member c.args.model.now.metamodel (tree_of c.args.body.now) c.args.variable.now (values_of c.args.scope.now)) true (members c.args.receiver.now)) c.args.reads.now c.in_err-found-in-Exists.field-0.0 c.eval_first.new.reads c.in_err-found-in-Exists.ensures.value))
 
 pub eval_lambda-returns-in_ok-found-in-Exists-clause-value : goal.eval_lambda-returns-in_ok-found-in-Exists-clause-value
 unfolding iterated
 eval_lambda-returns-in_ok-found-in-Exists-clause-value t c =
     rw c.in-Exists.is
-    (searched (first_that (of_member c.args.model.now.metamodel (tree_of c.args.body.now) c.args.variable.now (values_of c.args.scope.now)) true (members c.args.receiver.now)) (λ found. flag (is_some found)) (contents c.args.model.now) c.args.reads.now c.in_ok-found-in-Exists.found c.eval_first.new.reads c.in_ok-found-in-Exists.ensures.value ∙ ap (λ v. record { gave = Ok v; reads = c.eval_first.new.reads }) (sym (c.flag.ensures ∙ ap flag c.is_some.ensures)))
+    (searched (first_that (of_member c.args.model.now.metamodel (tree_of c.args.body.now) c.args.variable.now (values_of c.args.scope.now)) true (members c.args.receiver.now)) (λ (found : Option Scalar). flag (is_some found)) (contents c.args.model.now) c.args.reads.now c.in_ok-found-in-Exists.found c.eval_first.new.reads c.in_ok-found-in-Exists.ensures.value ∙ ap (λ v. record { gave = Ok v; reads = c.eval_first.new.reads }) (sym (c.flag.ensures ∙ ap flag c.is_some.ensures)))
 
 pub eval_lambda-returns-in_err-found-in-ForAll-clause-value : goal.eval_lambda-returns-in_err-found-in-ForAll-clause-value
 unfolding iterated
 eval_lambda-returns-in_err-found-in-ForAll-clause-value t c =
     rw c.in-ForAll.is
     (returned _ c.from_residual-in_err-found-in-ForAll.result c.in_err-found-in-ForAll.field-0.0 c.eval_first-in-ForAll.new.reads c.from_residual-in_err-found-in-ForAll.ensures.1
-    (stopped (λ found. done ((λ found. flag (is_none found)) found)) (contents c.args.model.now) (first_that (of_member c.args.model.now.metamodel (tree_of c.args.body.now) c.args.variable.now (values_of c.args.scope.now)) false (members c.args.receiver.now)) c.args.reads.now c.in_err-found-in-ForAll.field-0.0 c.eval_first-in-ForAll.new.reads c.in_err-found-in-ForAll.ensures.value))
+    (stopped (λ found. done ((λ (found : Option Scalar). flag (not (is_some found))) found)) (contents c.args.model.now) (first_that (of_member c.args.model.now.metamodel (tree_of c.args.body.now) c.args.variable.now (values_of c.args.scope.now)) false (members c.args.receiver.now)) c.args.reads.now c.in_err-found-in-ForAll.field-0.0 c.eval_first-in-ForAll.new.reads c.in_err-found-in-ForAll.ensures.value))
 
 pub eval_lambda-returns-in_ok-found-in-ForAll-clause-value : goal.eval_lambda-returns-in_ok-found-in-ForAll-clause-value
 unfolding iterated
 eval_lambda-returns-in_ok-found-in-ForAll-clause-value t c =
     rw c.in-ForAll.is
-    (searched (first_that (of_member c.args.model.now.metamodel (tree_of c.args.body.now) c.args.variable.now (values_of c.args.scope.now)) false (members c.args.receiver.now)) (λ found. flag (is_none found)) (contents c.args.model.now) c.args.reads.now c.in_ok-found-in-ForAll.found c.eval_first-in-ForAll.new.reads c.in_ok-found-in-ForAll.ensures.value ∙ ap (λ v. record { gave = Ok v; reads = c.eval_first-in-ForAll.new.reads }) (sym (c.flag-in-ForAll.ensures ∙ ap flag c.is_none.ensures)))
+    (searched (first_that (of_member c.args.model.now.metamodel (tree_of c.args.body.now) c.args.variable.now (values_of c.args.scope.now)) false (members c.args.receiver.now)) (λ (found : Option Scalar). flag (not (is_some found))) (contents c.args.model.now) c.args.reads.now c.in_ok-found-in-ForAll.found c.eval_first-in-ForAll.new.reads c.in_ok-found-in-ForAll.ensures.value ∙ ap (λ v. record { gave = Ok v; reads = c.eval_first-in-ForAll.new.reads }) (sym (c.flag-in-ForAll.ensures ∙ ap (λ b. flag (not b)) c.is_some-in-ForAll.ensures)))
 
 pub eval_lambda-returns-in_err-found-in-Any-clause-value : goal.eval_lambda-returns-in_err-found-in-Any-clause-value
 unfolding iterated
@@ -389,20 +390,20 @@ eval_sifted-loop-member-preserved t c =
     let reads = c.eval_test.new.reads in
     let one = sift_gives (of_member c.args.model.now.metamodel (tree_of c.args.body.now) c.args.variable.now (values_of c.args.scope.now)) (contents c.args.model.now) l.reads x c.args.wanted l.kept b reads c.in_ok-eval_test.ensures.value in
     elim c.if-branch-wanted.branch [
-    eval_sifted-then-branch-wanted+in_ok-copy+in_ok-push w ↦
-    let k : c.if-branch-wanted.kept ≡ l.kept ++ x ∷ [] = cc (w.in_ok-push.ensures.ok, w.in_ok-copy.ensures) in
-    let step = one ∙ ap (λ ys. record { gave = Ok ys; reads = reads }) (kept_more c.args.wanted b l.kept x w.if-branch-wanted.true ∙ sym k) in
-    record {
-      same = loop_next (sift (of_member c.args.model.now.metamodel (tree_of c.args.body.now) c.args.variable.now (values_of c.args.scope.now)) c.args.wanted) (contents c.args.model.now) l.kept (drop l.member-index xs) x (drop (l.member-index + 1) xs) l.reads c.if-branch-wanted.kept reads _ here step l.invariant.same;
-      among = rw (k, more) (one_kept l.invariant.among x);
-    }
-    | eval_sifted-else-branch-wanted w ↦
-    let k : c.if-branch-wanted.kept ≡ l.kept = cc in
-    let step = one ∙ ap (λ ys. record { gave = Ok ys; reads = reads }) (kept_same c.args.wanted b l.kept x w.if-branch-wanted.false ∙ sym k) in
-    record {
-      same = loop_next (sift (of_member c.args.model.now.metamodel (tree_of c.args.body.now) c.args.variable.now (values_of c.args.scope.now)) c.args.wanted) (contents c.args.model.now) l.kept (drop l.member-index xs) x (drop (l.member-index + 1) xs) l.reads c.if-branch-wanted.kept reads _ here step l.invariant.same;
-      among = rw (k, more) (one_left_out l.invariant.among x);
-    }
+      | eval_sifted-then-branch-wanted+in_ok-copy+in_ok-push w ↦
+          let k : c.if-branch-wanted.kept ≡ l.kept ++ x ∷ [] = cc (w.in_ok-push.ensures.ok, w.in_ok-copy.ensures) in
+          let step = one ∙ ap (λ ys. record { gave = Ok ys; reads = reads }) (kept_more c.args.wanted b l.kept x w.if-branch-wanted.true ∙ sym k) in
+          record {
+            same = loop_next (sift (of_member c.args.model.now.metamodel (tree_of c.args.body.now) c.args.variable.now (values_of c.args.scope.now)) c.args.wanted) (contents c.args.model.now) l.kept (drop l.member-index xs) x (drop (l.member-index + 1) xs) l.reads c.if-branch-wanted.kept reads _ here step l.invariant.same;
+            among = rw (k, more) (one_kept l.invariant.among x);
+          }
+      | eval_sifted-else-branch-wanted w ↦
+          let k : c.if-branch-wanted.kept ≡ l.kept = cc in
+          let step = one ∙ ap (λ ys. record { gave = Ok ys; reads = reads }) (kept_same c.args.wanted b l.kept x w.if-branch-wanted.false ∙ sym k) in
+          record {
+            same = loop_next (sift (of_member c.args.model.now.metamodel (tree_of c.args.body.now) c.args.variable.now (values_of c.args.scope.now)) c.args.wanted) (contents c.args.model.now) l.kept (drop l.member-index xs) x (drop (l.member-index + 1) xs) l.reads c.if-branch-wanted.kept reads _ here step l.invariant.same;
+            among = rw (k, more) (one_left_out l.invariant.among x);
+          }
     ]
 
 pub eval_sifted-returns-clause-value : goal.eval_sifted-returns-clause-value
@@ -509,8 +510,10 @@ eval_first-returns-clause-value t c =
 
 pub eval_test-returns-in_err-eval_member : goal.eval_test-returns-in_err-eval_member
 eval_test-returns-in_err-eval_member t c =
-    record { value = returned _ c.from_residual.result c.in_err-eval_member.field-0.0 c.eval_member.new.reads c.from_residual.ensures.1
-    (test_stopped (of_member c.args.model.now.metamodel (tree_of c.args.body.now) c.args.variable.now (values_of c.args.scope.now)) (contents c.args.model.now) c.args.reads.now c.args.member.now c.in_err-eval_member.field-0.0 c.eval_member.new.reads c.in_err-eval_member.ensures.value) }
+    record {
+      value = returned _ c.from_residual.result c.in_err-eval_member.field-0.0 c.eval_member.new.reads c.from_residual.ensures.1
+          (test_stopped (of_member c.args.model.now.metamodel (tree_of c.args.body.now) c.args.variable.now (values_of c.args.scope.now)) (contents c.args.model.now) c.args.reads.now c.args.member.now c.in_err-eval_member.field-0.0 c.eval_member.new.reads c.in_err-eval_member.ensures.value);
+    }
 
 pub eval_test-returns : goal.eval_test-returns
 eval_test-returns t c =

@@ -68,23 +68,23 @@ abbrev pub invariant-eval_elements-loop-element : goal.invariant-eval_elements-l
 invariant-eval_elements-loop-element l = record {
   sort : l.gathered.0 ≡ sort_named l.fn.kind;
   same : run (collected l.model.metamodel l.gathered.0 l.gathered.1 (trees_in (drop l.element-index l.element-items)) (values_of l.scope)) (contents l.model) l.reads
-    ≡ run (collected l.model.metamodel l.initial.gathered.0 l.initial.gathered.1 (trees_in l.element-items) (values_of l.scope)) (contents l.model) l.initial.reads;
-  bounded : IsBounded l.model.metamodel (collection l.gathered.0 l.gathered.1)
+      ≡ run (collected l.model.metamodel l.initial.gathered.0 l.initial.gathered.1 (trees_in l.element-items) (values_of l.scope)) (contents l.model) l.initial.reads;
+  bounded : IsBounded l.model.metamodel (collection l.gathered.0 l.gathered.1);
 }
 
 abbrev pub invariant-eval_collected-loop-member : goal.invariant-eval_collected-loop-member
 invariant-eval_collected-loop-member l = record {
   sort : l.gathered.0 ≡ sort_of l.receiver;
   same : run (each (gather l.gathered.0 (of_member l.model.metamodel (tree_of l.body) l.variable (values_of l.scope))) l.gathered.1 (drop l.member-index l.member-items)) (contents l.model) l.reads
-    ≡ run (each (gather l.initial.gathered.0 (of_member l.model.metamodel (tree_of l.body) l.variable (values_of l.scope))) l.initial.gathered.1 l.member-items) (contents l.model) l.initial.reads;
-  bounded : IsBounded l.model.metamodel (collection l.gathered.0 l.gathered.1)
+      ≡ run (each (gather l.initial.gathered.0 (of_member l.model.metamodel (tree_of l.body) l.variable (values_of l.scope))) l.initial.gathered.1 l.member-items) (contents l.model) l.initial.reads;
+  bounded : IsBounded l.model.metamodel (collection l.gathered.0 l.gathered.1);
 }
 
 abbrev pub invariant-eval_sifted-loop-member : goal.invariant-eval_sifted-loop-member
 invariant-eval_sifted-loop-member l = record {
   same : run (each (sift (of_member l.model.metamodel (tree_of l.body) l.variable (values_of l.scope)) l.wanted) l.kept (drop l.member-index l.member-items)) (contents l.model) l.reads
-    ≡ run (each (sift (of_member l.model.metamodel (tree_of l.body) l.variable (values_of l.scope)) l.wanted) [] l.member-items) (contents l.model) l.initial.reads;
-  among : IsSublist l.kept (take l.member-index l.member-items)
+      ≡ run (each (sift (of_member l.model.metamodel (tree_of l.body) l.variable (values_of l.scope)) l.wanted) [] l.member-items) (contents l.model) l.initial.reads;
+  among : IsSublist l.kept (take l.member-index l.member-items);
 }
 
 abbrev pub invariant-eval_first-loop-member : goal.invariant-eval_first-loop-member
