@@ -1,0 +1,6 @@
+pub mod Choices
+pub mod Climbs
+pub mod FirstLooks
+pub mod Handed
+pub mod Others
+pub mod Sequencing

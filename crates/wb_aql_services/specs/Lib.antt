@@ -1,0 +1,6 @@
+pub mod Asked
+pub mod Collections
+pub mod Navigation
+pub mod Services
+pub mod Texts
+pub mod Types
