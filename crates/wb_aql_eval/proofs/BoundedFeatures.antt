@@ -1,12 +1,12 @@
 -- What a feature gives is within the bounds of a value, over a valid model.
 use Rattle.std.specs.Prelude.{⊤}
-use Rattle.std.proofs.Common.{◌≡◌, ◌≤◌, ◌<◌, ℕ, zero, suc, Bool, true, false, not, ◌&&◌, nat_le, nat_lt, nat_eq, List, [], ◌∷◌, length, Option, None, Some, refl, sym, ap, subst, ◌∙◌, arith, if◌then◌else◌}
+use Rattle.std.proofs.Common.{◌≡◌, ◌≤◌, ◌<◌, ℕ, zero, suc, Bool, true, false, ◌&&◌, nat_le, nat_lt, nat_eq, List, [], ◌∷◌, length, Option, None, Some, refl, sym, subst, ◌∙◌, arith, if◌then◌else◌}
 use Rattle.std.proofs.lemmas.Bool.{false≢true}
 use Rattle.std.proofs.lemmas.Bool.Decides.{nat_tests}
 use Rattle.std.specs.Prelude.{slice_get}
 use Rattle.std.specs.List.{list_all}
 use Rattle.std.specs.Option.{option_map_or}
-use Rattle.wb_metamodel.specs.Metamodel.{Metamodel, feature_named, feature_at, enum_at, literals_of}
+use Rattle.wb_metamodel.specs.Metamodel.{Metamodel, feature_named, feature_at, literals_of}
 use Rattle.wb_metamodel.specs.declared.classes.Enumeration.{Enumeration}
 use Rattle.wb_metamodel.specs.declared.features.Feature.{Feature}
 use Rattle.wb_metamodel.specs.declared.features.Kind.{Kind as FeatureKind}
@@ -20,9 +20,9 @@ use Rattle.wb_model.specs.Valid.{Valid, IsValid, differ, is_many, room, is_of_ki
 use Rattle.wb_model.proofs.Members.{In, here as in_front}
 use Rattle.wb_model.proofs.Trees.{at_slot}
 use Rattle.wb_aql_values.specs.declared.values.Value.{Value}
-use Rattle.wb_aql_values.specs.declared.values.Value.TheVariants.{Null, One, OrderedSet}
+use Rattle.wb_aql_values.specs.declared.values.Value.TheVariants.{Null}
 use Rattle.wb_aql_values.specs.Bounds.{AreBounded, IsBounded, is_bounded}
-use Rattle.wb_aql_values.specs.Readings.{Content, contents, Reading, done, fail, look, held, given, class_of, lifted, ◌>>=◌}
+use Rattle.wb_aql_values.specs.Readings.{Content, contents, done, held, given, class_of, ◌>>=◌}
 use Rattle.wb_aql_eval.specs.Features.{feature_of, feature_of_object, navigated, known, shown}
 use Rattle.wb_aql_eval.proofs.Putting.{le_of_test}
 use Rattle.wb_aql_eval.proofs.Sublists.{and_both, both_true}

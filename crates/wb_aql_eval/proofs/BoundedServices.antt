@@ -1,19 +1,18 @@
 -- What a service gives is within the bounds of a value, where its receiver and its arguments are.
 use Rattle.std.specs.Prelude.{⊤}
-use Rattle.std.proofs.Common.{◌≡◌, ◌≤◌, ◌-◌, ◌⊎◌, inl, inr, ℕ, zero, suc, Bool, true, false, not, ◌&&◌, nat_le, nat_eq, List, [], ◌∷◌, ◌++◌, length, map, Option, None, Some, Result, Ok, Err, cond, refl, sym, ap, subst, ◌∙◌, arith, append_assoc, if◌then◌else◌, ℤ, pos, negsuc}
+use Rattle.std.proofs.Common.{◌≡◌, ◌≤◌, ◌-◌, ◌⊎◌, inl, inr, ℕ, zero, suc, Bool, true, false, not, ◌&&◌, nat_le, nat_eq, List, [], ◌∷◌, ◌++◌, length, map, Option, None, Some, Result, Ok, Err, cond, refl, sym, ap, subst, ◌∙◌, append_assoc, if◌then◌else◌, ℤ, pos, negsuc}
 use Rattle.std.proofs.lemmas.List.{append-nil}
 use Rattle.std.specs.Prelude.{slice_get, filter}
 use Rattle.std.specs.List.{list_all, before_first, after_first, starts_with}
 use Rattle.std.specs.Option.{option_map_or}
 use Rattle.wb_metamodel.specs.Metamodel.{Metamodel}
 use Rattle.wb_model.specs.declared.scalars.Cell.{Cell}
-use Rattle.wb_model.specs.declared.scalars.Cell.TheVariants.{Kind, Holder, Tree, Inverse}
+use Rattle.wb_model.specs.declared.scalars.Cell.TheVariants.{Kind, Tree}
 use Rattle.wb_model.specs.declared.scalars.Scalar.{Scalar}
 use Rattle.wb_model.specs.declared.scalars.Scalar.TheVariants.{Int, Bool as Boolean, Text, Literal, Object}
 use Rattle.wb_aql_check.specs.declared.services.Service.{Service}
 use Rattle.wb_aql_check.specs.declared.services.Service.TheVariants as s
 use Rattle.wb_aql_services.specs.declared.arguments.Argument.{Argument}
-use Rattle.wb_aql_services.specs.declared.arguments.Argument.TheVariants.{Class, Of}
 use Rattle.wb_aql_services.specs.Services.{meaning, on_receiver, on_scalar, on_null}
 use Rattle.wb_aql_services.specs.Asked.{type_in, value_in}
 use Rattle.wb_aql_services.specs.Navigation as n
@@ -29,9 +28,9 @@ use Rattle.wb_aql_values.specs.declared.values.Value.TheVariants.{Null, One, Seq
 use Rattle.wb_aql_values.specs.Bounds.{AreBounded, IsBounded, is_bounded}
 use Rattle.wb_aql_values.specs.Values.{collection, put, short, members, sort_of}
 use Rattle.wb_aql_values.specs.TextForms.{bounded_text, made, full_form, text_form, scalar_form}
-use Rattle.wb_aql_values.specs.Readings.{Content, Reading, done, fail, look, given, held, each, class_of, live, ◌>>=◌}
+use Rattle.wb_aql_values.specs.Readings.{Content, Reading, done, fail, given, held, each, class_of, ◌>>=◌}
 use Rattle.wb_aql_eval.proofs.Putting.{put_bounded, bounded_put, empty_bounded, bounded_members, le_of_test}
-use Rattle.wb_aql_eval.proofs.Sublists.{IsSublist, none, kept, left_out, bounded_kept, bounded_sublist, and_both, both_true}
+use Rattle.wb_aql_eval.proofs.Sublists.{IsSublist, none, kept, left_out, bounded_kept, bounded_sublist, and_both}
 use Rattle.wb_aql_eval.proofs.Yields.{Yields, in_turn, weaker, anything, of_given, of_lifted}
 
 one_more : {A : Type 0} (b : Bool) (x : A) (ys xs : List A) → IsSublist ys xs → IsSublist (cond b (x ∷ ys) ys) (x ∷ xs)

@@ -1,5 +1,5 @@
 -- Runs of a feature of an object.
-use Rattle.std.proofs.Common.{◌≡◌, ◌<◌, ℕ, zero, suc, Bool, true, false, List, [], ◌∷◌, length, Option, Some, None, Ok, Err, cond, refl, sym, ap, subst, ◌∙◌, arith}
+use Rattle.std.proofs.Common.{◌≡◌, ◌<◌, ℕ, zero, suc, Bool, true, false, List, [], ◌∷◌, length, Some, None, Ok, Err, cond, refl, ap, subst, ◌∙◌, arith}
 use Rattle.std.proofs.lemmas.Bool.{false≢true}
 use Rattle.std.specs.Prelude.{find, slice_get}
 use Rattle.std.specs.Option.{option_map_or}
@@ -7,13 +7,12 @@ use Rattle.wb_metamodel.specs.declared.features.Feature.{Feature}
 use Rattle.wb_metamodel.specs.Metamodel.{Metamodel, feature_named, feature_at, features_of, same_name}
 use Rattle.wb_model.specs.declared.scalars.Cell.{Cell}
 use Rattle.wb_model.specs.declared.scalars.Cell.TheVariants.{Slot}
-use Rattle.wb_model.specs.declared.scalars.Scalar.{Scalar}
 use Rattle.wb_model.specs.Contents.{Contents, slot}
 use Rattle.wb_model.specs.Valid.{is_many}
 use Rattle.wb_aql_values.specs.declared.faults.Fault.TheVariants.{NoFeature}
 use Rattle.wb_aql_values.specs.declared.faults.Stop.{Stop}
 use Rattle.wb_aql_values.specs.declared.values.Value.{Value}
-use Rattle.wb_aql_values.specs.Readings.{Content, contents, Reading, done, held, given, class_of, ◌>>=◌}
+use Rattle.wb_aql_values.specs.Readings.{contents, Reading, done, held, given, class_of, ◌>>=◌}
 use Rattle.wb_aql_values.specs.Runs.{run, with_read, Gives}
 use Rattle.wb_aql_values.proofs.RunLemmas.{followed, stopped}
 use Rattle.wb_aql_eval.specs.Features.{feature_of_object, known, shown}

@@ -1,5 +1,5 @@
 -- The run over the objects of a class.
-use Rattle.std.proofs.Common.{◌≡◌, ℕ, List, [], map, Result, Ok, Err, refl, sym, ap, subst, ◌∙◌}
+use Rattle.std.proofs.Common.{◌≡◌, ℕ, List, [], map, Result, Ok, Err, refl, sym, subst, ◌∙◌}
 use Rattle.wb_model.specs.declared.scalars.Cell.{Cell}
 use Rattle.wb_model.specs.declared.scalars.Cell.TheVariants.{Extent}
 use Rattle.wb_model.specs.declared.scalars.Scalar.{Scalar}

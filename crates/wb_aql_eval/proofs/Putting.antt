@@ -1,5 +1,5 @@
 -- What is put together is within its bounds.
-use Rattle.std.proofs.Common.{◌≡◌, ◌≤◌, ℕ, Bool, true, false, not, ◌&&◌, ◌||◌, nat_le, List, [], ◌∷◌, ◌++◌, length, fold, Result, Ok, Err, OnOk, refl, sym, ap, subst, ◌∙◌, arith, if◌then◌else◌}
+use Rattle.std.proofs.Common.{◌≡◌, ◌≤◌, ℕ, Bool, true, false, ◌&&◌, ◌||◌, nat_le, List, [], ◌∷◌, ◌++◌, length, Result, Ok, Err, OnOk, refl, sym, subst, ◌∙◌, arith, if◌then◌else◌}
 use Rattle.std.specs.List.{list_all, list_any}
 use Rattle.std.proofs.lemmas.Bool.Decides.{nat_tests}
 use Rattle.wb_metamodel.specs.Metamodel.{Metamodel}
@@ -13,7 +13,7 @@ use Rattle.wb_aql_values.specs.declared.values.Sort.TheVariants as sort
 use Rattle.wb_aql_values.specs.declared.values.Value.{Value}
 use Rattle.wb_aql_values.specs.declared.values.Value.TheVariants.{Null, One, Sequence, OrderedSet}
 use Rattle.wb_aql_values.specs.Values.{members, collection, has, with_member, with_members, short, put}
-use Rattle.wb_aql_values.specs.Bounds.{AreBounded, IsBounded, is_bounded}
+use Rattle.wb_aql_values.specs.Bounds.{IsBounded, is_bounded}
 use Rattle.wb_aql_values.specs.declared.faults.Stop.{Stop}
 use Rattle.wb_aql_values.specs.Runs.{Became}
 use Rattle.wb_aql_eval.proofs.Sublists.{and_both, both_true, or_neither, both_false, not_true, not_false}

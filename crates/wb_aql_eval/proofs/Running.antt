@@ -9,7 +9,7 @@ use Rattle.wb_aql_values.specs.declared.faults.Fault.{Fault}
 use Rattle.wb_aql_values.specs.declared.faults.Stop.{Stop}
 use Rattle.wb_aql_values.specs.declared.faults.Stop.TheVariants as s
 use Rattle.wb_aql_values.specs.declared.values.Value.{Value}
-use Rattle.wb_aql_values.specs.Readings.{Content, Reading, done, given, each, ◌>>=◌}
+use Rattle.wb_aql_values.specs.Readings.{Content, Reading, done, given, ◌>>=◌}
 use Rattle.wb_aql_values.specs.Runs.{Ran, run, Gives}
 use Rattle.wb_aql_values.proofs.RunLemmas.{followed, stopped, gives_next, run_done}
 use Rattle.wb_aql_eval.specs.Answers.{Is}

@@ -1,6 +1,6 @@
 -- What is true of each value that a reading can give, over contents that are as wanted.
 use Rattle.std.specs.Prelude.{⊤}
-use Rattle.std.proofs.Common.{◌≡◌, Bool, true, false, ◌&&◌, List, [], ◌∷◌, ◌++◌, Result, Ok, Err, IfOk, refl, sym, ap, subst, ◌∙◌}
+use Rattle.std.proofs.Common.{◌≡◌, Bool, true, ◌&&◌, List, [], ◌∷◌, ◌++◌, Result, Ok, Err, IfOk, refl, ap, subst, ◌∙◌}
 use Rattle.std.specs.List.{list_all}
 use Rattle.wb_metamodel.specs.Metamodel.{Metamodel}
 use Rattle.wb_model.specs.declared.scalars.Cell.{Cell}
@@ -11,8 +11,8 @@ use Rattle.wb_aql_values.specs.declared.values.Sort.{Sort}
 use Rattle.wb_aql_values.specs.declared.values.Sort.TheVariants as sort
 use Rattle.wb_aql_values.specs.declared.values.Value.{Value}
 use Rattle.wb_aql_values.specs.declared.values.Value.TheVariants.{Null, One, Sequence, OrderedSet}
-use Rattle.wb_aql_values.specs.Bounds.{AreBounded, IsBounded, is_bounded}
-use Rattle.wb_aql_values.specs.Values.{collection, put, members}
+use Rattle.wb_aql_values.specs.Bounds.{IsBounded, is_bounded}
+use Rattle.wb_aql_values.specs.Values.{collection, put}
 use Rattle.wb_aql_values.specs.Readings.{Content, Reading, done, fail, look, given, each, gather, of_each, lifted, ◌>>=◌}
 use Rattle.wb_aql_values.specs.Runs.{Ran, run, with_read, Gives}
 use Rattle.wb_aql_eval.proofs.Putting.{bounded_put, empty_bounded}

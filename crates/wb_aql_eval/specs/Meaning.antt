@@ -1,9 +1,9 @@
 -- What an expression means: a reading that gives its value, one line for each kind of node.
 use Rattle.std.specs.Prelude.{ℕ, ◌^◌, nat_le, true, false, List, [], ◌∷◌, length, Option, Some, None, Result, Ok, Err, pos, if◌then◌else◌}
 use Rattle.std.specs.Option.{option_map_or}
-use Rattle.wb_metamodel.specs.Metamodel.{Metamodel, class_named, enum_named, literal_named, feature_named}
+use Rattle.wb_metamodel.specs.Metamodel.{Metamodel, class_named, enum_named, literal_named}
 use Rattle.wb_model.specs.declared.scalars.Scalar.{Scalar}
-use Rattle.wb_model.specs.declared.scalars.Scalar.TheVariants.{Int, Text, Literal, Object}
+use Rattle.wb_model.specs.declared.scalars.Scalar.TheVariants.{Text, Literal}
 use Rattle.wb_aql_syntax.specs.Tree.{Tree, Trees, Arguments}
 use Rattle.wb_aql_syntax.specs.Tree as t
 use Rattle.wb_aql_syntax.specs.declared.expr.Constant.{Constant}
@@ -22,13 +22,13 @@ use Rattle.wb_aql_check.specs.declared.services.Iteration.{Iteration}
 use Rattle.wb_aql_services.specs.declared.arguments.Argument.{Argument}
 use Rattle.wb_aql_services.specs.declared.arguments.Argument.TheVariants as a
 use Rattle.wb_aql_values.specs.declared.faults.Fault.{Fault}
-use Rattle.wb_aql_values.specs.declared.faults.Fault.TheVariants.{TextTooLong, Overflow, NotAnObject}
+use Rattle.wb_aql_values.specs.declared.faults.Fault.TheVariants.{TextTooLong}
 use Rattle.wb_aql_values.specs.declared.values.Sort.{Sort}
 use Rattle.wb_aql_values.specs.declared.values.Sort.TheVariants as sort
 use Rattle.wb_aql_values.specs.declared.values.Value.{Value}
 use Rattle.wb_aql_values.specs.declared.values.Value.TheVariants.{Null, One}
 use Rattle.wb_aql_values.specs.Values.{put, collection}
-use Rattle.wb_aql_values.specs.Readings.{Reading, done, fail, given, lifted, ◌>>=◌}
+use Rattle.wb_aql_values.specs.Readings.{Reading, done, given, ◌>>=◌}
 use Rattle.wb_aql_eval.specs.Operators.{truth, flag, number, unary, decided, combined}
 use Rattle.wb_aql_eval.specs.Features.{feature_of}
 use Rattle.wb_aql_eval.specs.Iterations.{iterated}

@@ -1,9 +1,8 @@
 -- The operators, on values: what each gives without a look at the model.
-use Rattle.std.specs.Prelude.{ℕ, ◌^◌, nat_lt, Bool, true, false, not, ◌&&◌, ◌||◌, ℤ, pos, negsuc, ◌+ℤ◌, ◌-ℤ◌, ◌*ℤ◌, neg_ℤ, int_lt, int_le, int_div, List, Option, Some, None, Result, Ok, Err, if◌then◌else◌}
+use Rattle.std.specs.Prelude.{ℕ, ◌^◌, nat_lt, Bool, true, false, not, ◌&&◌, ◌||◌, ℤ, pos, negsuc, ◌+ℤ◌, ◌-ℤ◌, ◌*ℤ◌, neg_ℤ, int_lt, int_le, int_div, Option, Some, None, Result, Ok, Err, if◌then◌else◌}
 use Rattle.std.specs.Bool.{beq}
 use Rattle.std.specs.Ordering.{int_eq}
 use Rattle.wb_metamodel.specs.Metamodel.{Metamodel}
-use Rattle.wb_model.specs.declared.scalars.Scalar.{Scalar}
 use Rattle.wb_model.specs.declared.scalars.Scalar.TheVariants.{Int, Bool as Boolean, Text}
 use Rattle.wb_aql_syntax.specs.declared.expr.Unary.{Unary}
 use Rattle.wb_aql_syntax.specs.declared.expr.Unary.TheVariants as u
@@ -12,7 +11,7 @@ use Rattle.wb_aql_syntax.specs.declared.expr.Binary.TheVariants as binary
 use Rattle.wb_aql_values.specs.declared.faults.Fault.{Fault}
 use Rattle.wb_aql_values.specs.declared.faults.Fault.TheVariants.{NotBool, NotInt, Overflow, DivideByZero}
 use Rattle.wb_aql_values.specs.declared.values.Value.{Value}
-use Rattle.wb_aql_values.specs.declared.values.Value.TheVariants.{Null, One}
+use Rattle.wb_aql_values.specs.declared.values.Value.TheVariants.{One}
 use Rattle.wb_aql_values.specs.Values.{same_value}
 use Rattle.wb_aql_values.specs.TextForms.{joined_forms, made}
 

@@ -1,5 +1,5 @@
 -- What is evaluated as a whole gives over a model, and the cells that it reads.
-use Rattle.std.specs.Prelude.{◌≡◌, ℕ, List, [], map, All, Result}
+use Rattle.std.specs.Prelude.{◌≡◌, ℕ, List, [], map, All}
 use Rattle.wb_metamodel.specs.Metamodel.{Metamodel}
 use Rattle.wb_model.specs.declared.scalars.Scalar.TheVariants.{Object}
 use Rattle.wb_model.specs.declared.scalars.Cell.TheVariants.{Extent}

@@ -1,5 +1,5 @@
 -- The values of the variables where a part of an expression stands.
-use Rattle.std.specs.Prelude.{ℕ, List, Option, slice_get, option_and_then, if◌then◌else◌}
+use Rattle.std.specs.Prelude.{ℕ, List, slice_get, option_and_then, if◌then◌else◌}
 use Rattle.std.specs.Option.{option_map_or}
 use Rattle.std.specs.List.{position}
 use Rattle.wb_metamodel.specs.Metamodel.{Metamodel, same_name}

@@ -1,9 +1,8 @@
-use Rattle.std.proofs.Common.{rules, ap, sym, subst, ◌∙◌}
+use Rattle.std.proofs.Common.{rules, sym, subst, ◌∙◌}
 use Rattle.wb_aql_check.specs.Checked.{KnownTo}
 use Rattle.wb_aql_values.specs.Readings.{contents}
 use Rattle.wb_aql_values.specs.Runs.{Gives, run}
 use Rattle.wb_aql_eval.specs.Outcomes.{sense}
-use Rattle.wb_aql_eval.specs.Scopes.{AreWithin, values_of}
 use Rattle.wb_aql_eval.proofs.Scopes.{values_outer, outer_within}
 use Rattle.wb_aql_eval.proofs.evaluation.eval_checked.Goals as goal
 

@@ -1,5 +1,5 @@
 use Rattle.wb_aql_values.specs.Bounds.{IsBounded}
-use Rattle.wb_aql_values.specs.Readings.{contents, lifted, done}
+use Rattle.wb_aql_values.specs.Readings.{contents}
 use Rattle.wb_aql_eval.specs.Features.{feature_of}
 use Rattle.wb_aql_eval.proofs.BoundedFeatures.{AreHeld, valid_held, feature_yields}
 use Rattle.wb_aql_eval.proofs.Yields.{gives_bounded}

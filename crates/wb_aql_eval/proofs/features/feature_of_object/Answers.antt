@@ -1,4 +1,4 @@
-use Rattle.std.proofs.Common.{◌≡◌, ◌<◌, length, false, Ok, Err, Some, None, sym, ap, subst, ◌∙◌}
+use Rattle.std.proofs.Common.{◌≡◌, ◌<◌, length, false, Ok, Some, None, sym, ap, subst, ◌∙◌}
 use Rattle.wb_metamodel.specs.Metamodel.{feature_named, feature_at}
 use Rattle.wb_metamodel.specs.declared.features.Feature.{Feature}
 use Rattle.std.specs.Option.{option_map_or}

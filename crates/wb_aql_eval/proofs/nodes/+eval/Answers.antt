@@ -1,4 +1,4 @@
-use Rattle.std.proofs.Common.{rules, arith, ◌≡◌, ◌≤◌, ◌+◌, suc, true, false, length, [], ◌∷◌, ◌++◌, drop, take, Some, None, is_some, not, Option, Ok, Err, refl, sym, ap, ◌∙◌, subst}
+use Rattle.std.proofs.Common.{rules, arith, ◌≡◌, ◌≤◌, ◌+◌, suc, true, false, [], ◌∷◌, ◌++◌, drop, take, Some, None, is_some, not, Option, Ok, Err, refl, sym, ap, ◌∙◌, subst}
 use Rattle.std.proofs.lemmas.List.{drop_more, drop_all, take_more, take_all}
 use Rattle.wb_aql_syntax.specs.View.{tree_of, trees_in, arguments_in}
 use Rattle.wb_aql_syntax.proofs.Nodes.{tree_collection, tree_unary, tree_binary, tree_conditional, tree_let_in, tree_feature, tree_call}
@@ -13,10 +13,10 @@ use Rattle.wb_aql_values.specs.Runs.{run, Gives}
 use Rattle.wb_aql_values.proofs.RunLemmas.{followed, stopped, gives_next, returned, nothing_left, left_returned, became_left, run_done, loop_next, loop_stopped, loop_done}
 use Rattle.wb_aql_eval.specs.Operators.{unary, combined, flag}
 use Rattle.wb_aql_eval.specs.Iterations.{sift, sifted, first_that, iterated, kept, or_null}
-use Rattle.wb_aql_eval.specs.Meaning.{meaning, collected, called, after, put_last, serviced, repeated, of_member, sort_named, service_called}
+use Rattle.wb_aql_eval.specs.Meaning.{meaning, collected, called, put_last, serviced, of_member, sort_named, service_called}
 use Rattle.wb_aql_eval.specs.Features.{feature_of}
 use Rattle.wb_aql_eval.specs.Scopes.{values_of, bound}
-use Rattle.wb_aql_eval.proofs.Meanings.{means_integer, means_text, means_constant, means_literal, means_collection, means_unary, means_binary, means_if, means_let, means_feature, means_call, means_variable, no_elements, more_elements, no_argument, a_type, a_value, a_lambda, called_alone, called_at_length, one_item}
+use Rattle.wb_aql_eval.proofs.Meanings.{means_integer, means_text, means_constant, means_literal, means_collection, means_unary, means_binary, means_if, means_let, means_feature, means_call, means_variable, no_elements, more_elements, a_type, a_value, a_lambda, called_alone, called_at_length, one_item}
 use Rattle.wb_aql_eval.proofs.Putting.{became_bounded, empty_bounded}
 use Rattle.wb_aql_eval.proofs.Running.{given_gives, gives_equal, left_stopped, not_decided, decided_early, goes_right, condition_stopped, not_true_or_false, chose, test_stopped, test_gives, sift_stopped, sift_gives, first_stopped, first_found, first_passed_over, first_none, kept_more, kept_same, searched}
 use Rattle.wb_aql_eval.proofs.Scopes.{values_inner, inner_within}

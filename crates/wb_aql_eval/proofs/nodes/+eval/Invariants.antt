@@ -3,7 +3,7 @@ use Rattle.std.proofs.Common.{◌≡◌, ◌∷◌, [], ◌+◌, ◌*◌, drop, 
 use Rattle.wb_aql_syntax.specs.View.{tree_of, trees_in, arguments_in}
 use Rattle.wb_aql_syntax.proofs.Weights.{weight, elements_weight, arguments_weight}
 use Rattle.wb_aql_values.specs.Bounds.{IsBounded}
-use Rattle.wb_aql_values.specs.Values.{collection, members, sort_of}
+use Rattle.wb_aql_values.specs.Values.{collection, sort_of}
 use Rattle.wb_aql_values.specs.Readings.{contents, each, gather}
 use Rattle.wb_aql_values.specs.Runs.{run}
 use Rattle.wb_aql_eval.specs.Iterations.{sift, first_that}

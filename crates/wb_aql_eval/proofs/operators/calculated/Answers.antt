@@ -1,7 +1,7 @@
-use Rattle.std.proofs.Common.{rules, Ok, Err, sym, ap, ◌∙◌, w64}
+use Rattle.std.proofs.Common.{rules, Err, ◌∙◌, w64}
 use Rattle.std.specs.Prelude.{FitsSigned}
 use Rattle.std.proofs.lemmas.Int.{to_z-of_z}
-use Rattle.wb_aql_eval.specs.Operators.{flag, arithmetic, integer, passing}
+use Rattle.wb_aql_eval.specs.Operators.{arithmetic, integer, passing}
 use Rattle.wb_aql_eval.proofs.Passing.{passes, passes_not, is_returned}
 use Rattle.wb_aql_eval.proofs.operators.calculated.Goals as goal
 

@@ -1,4 +1,4 @@
-use Rattle.std.proofs.Common.{Ok, Err, None, refl}
+use Rattle.std.proofs.Common.{Ok, None, refl}
 use Rattle.wb_aql_eval.specs.Operators.{truth}
 use Rattle.wb_aql_eval.proofs.Passing.{passes, passes_not, is_returned}
 use Rattle.wb_aql_eval.proofs.operators.decided.Goals as goal

@@ -1,4 +1,4 @@
-use Rattle.std.proofs.Common.{Ok, Err, Some, None, true, false, sym, ap, ◌∙◌, if◌then◌else◌}
+use Rattle.std.proofs.Common.{Ok, Some, None, true, false, sym, ap, ◌∙◌, if◌then◌else◌}
 use Rattle.std.specs.Bool.{beq}
 use Rattle.wb_aql_eval.specs.Operators.{flag, truth}
 use Rattle.wb_aql_eval.proofs.Passing.{passes, passes_not, is_returned}

@@ -1,4 +1,4 @@
-use Rattle.std.proofs.Common.{◌≡◌, nat_eq, sym, ap, ◌∙◌, if◌then◌else◌}
+use Rattle.std.proofs.Common.{◌≡◌, sym, ap, ◌∙◌, if◌then◌else◌}
 use Rattle.wb_aql_eval.specs.Scopes.{values_of}
 use Rattle.wb_aql_eval.proofs.Scopes.{values_outer, values_inner}
 use Rattle.wb_aql_eval.proofs.scope.+value_of.Goals as goal
