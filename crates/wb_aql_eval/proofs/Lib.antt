@@ -7,6 +7,7 @@ pub mod Numbers
 pub mod Objects
 pub mod Passing
 pub mod Putting
+pub mod ReadLaws
 pub mod Running
 pub mod Scopes
 pub mod Serving

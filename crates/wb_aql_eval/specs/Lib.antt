@@ -4,4 +4,5 @@ pub mod Iterations
 pub mod Meaning
 pub mod Operators
 pub mod Outcomes
+pub mod ReadCells
 pub mod Scopes
