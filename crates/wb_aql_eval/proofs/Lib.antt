@@ -7,7 +7,6 @@ pub mod Numbers
 pub mod Objects
 pub mod Passing
 pub mod Putting
-pub mod ReadLaws
 pub mod Running
 pub mod Scopes
 pub mod Serving

@@ -5,4 +5,5 @@ pub mod Meaning
 pub mod Operators
 pub mod Outcomes
 pub mod ReadCells
+pub mod ReadLaws
 pub mod Scopes

@@ -1,4 +1,4 @@
-use Rattle.wb_aql_eval.proofs.ReadLaws.{alike_outcomes}
+use Rattle.wb_aql_eval.specs.ReadLaws.{alike_outcomes}
 use Rattle.wb_aql_eval.proofs.laws.reads_decide.Goals as goal
 
 pub returns : goal.returns
