@@ -4,4 +4,6 @@ pub mod Iterations
 pub mod Meaning
 pub mod Operators
 pub mod Outcomes
+pub mod ReadCells
+pub mod ReadLaws
 pub mod Scopes

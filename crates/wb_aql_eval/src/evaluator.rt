@@ -3,6 +3,7 @@ ghost use Rattle.wb_aql_check.specs.Checked.{IsChecked};
 ghost use Rattle.wb_aql_values.specs.Bounds.{IsBounded};
 ghost use Rattle.wb_aql_values.specs.Runs.{answered};
 ghost use Rattle.wb_aql_eval.specs.Outcomes.{Binds, outcome_of, ran};
+ghost use Rattle.wb_aql_eval.specs.ReadLaws.{alike_outcomes};
 
 use crate::env::{Env, Outcome};
 use crate::evaluation::eval;
@@ -19,6 +20,7 @@ pub trait Evaluator {
     ghost use Rattle.wb_aql_values.specs.declared.values.Value.{Value};
     ghost use Rattle.wb_aql_values.specs.Runs.{Ran};
     ghost use Rattle.wb_aql_eval.specs.declared.env.Env.{Env};
+    ghost use Rattle.wb_aql_eval.specs.ReadCells.{Alike};
 
     ghost outcome_by: { Origin × List (List ℕ) → Env → Contents → Ran Value };
 
@@ -37,12 +39,16 @@ pub trait Evaluator {
         ensures outcome { IfOk result (λ outcome. outcome_by e.now env.now model.now ≡ ran outcome) }
         ensures bounded { IfOk result (λ outcome. IfOk (answered outcome.answer) (IsBounded model.now.metamodel)) }
         ensures counted { count self.new ≡ count self.old + 1 };
+
+    ghost decides: { (checked : Origin × List (List ℕ)) (env : Env) (a b : Contents) → Alike a b (outcome_by checked env a).reads → outcome_by checked env b ≡ outcome_by checked env a };
 }
 
 impl<L> Evaluator for Steps<L> {
     ghost outcome_by = { outcome_of };
 
     ghost count = { λ s. s };
+
+    ghost decides = { alike_outcomes };
 
     fn evaluate(
         &mut self,

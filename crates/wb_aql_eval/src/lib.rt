@@ -7,6 +7,7 @@ mod env;
 mod evaluation;
 mod evaluator;
 mod features;
+mod laws;
 mod literals;
 mod members;
 mod nodes;
@@ -16,6 +17,7 @@ mod scope;
 pub use env::{Env, Outcome};
 pub use evaluation::eval;
 pub use evaluator::Evaluator;
+pub use laws::{reads_are_without_repeats, reads_decide};
 
 #[cfg(test)]
 mod tests;
