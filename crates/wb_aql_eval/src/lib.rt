@@ -18,6 +18,3 @@ pub use env::{Env, Outcome};
 pub use evaluation::eval;
 pub use evaluator::Evaluator;
 pub use laws::{reads_are_without_repeats, reads_decide};
-
-#[cfg(test)]
-mod tests;
