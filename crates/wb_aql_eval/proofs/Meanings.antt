@@ -12,7 +12,7 @@ use Rattle.wb_aql_syntax.specs.declared.expr.CollectionKind.{CollectionKind}
 use Rattle.wb_aql_syntax.specs.declared.expr.Argument.{Argument}
 use Rattle.wb_aql_syntax.specs.declared.expr.Argument.TheVariants as a
 use Rattle.wb_aql_syntax.proofs.Nodes.{tree_integer, tree_text, tree_constant, tree_variable, tree_literal, tree_collection, tree_unary, tree_binary, tree_conditional, tree_let_in, tree_feature, tree_call}
-use Rattle.wb_model.specs.declared.scalars.Scalar.{Scalar}
+use Rattle.wb_store.specs.declared.scalars.Scalar.{Scalar}
 use Rattle.wb_aql_services.specs.declared.arguments.Argument.TheVariants.{Of}
 use Rattle.wb_aql_values.specs.declared.values.Sort.{Sort}
 use Rattle.wb_aql_values.specs.declared.values.Value.{Value}

@@ -23,12 +23,12 @@ use Rattle.wb_metamodel.specs.declared.features.Kind.{Kind}
 use Rattle.wb_metamodel.specs.declared.features.Kind.TheVariants as kinds
 use Rattle.wb_metamodel.proofs.Known.{class-known}
 use Rattle.wb_metamodel.proofs.Positions.{position-Some}
-use Rattle.wb_model.specs.declared.scalars.Scalar.{Scalar}
-use Rattle.wb_model.specs.declared.scalars.Scalar.TheVariants as scalars
-use Rattle.wb_model.specs.Valid.{has_feature}
-use Rattle.wb_model.proofs.Found.{is_itself}
-use Rattle.wb_model.proofs.Members.{In, In-all, any_In}
-use Rattle.wb_model.proofs.Members.In.{here, there}
+use Rattle.wb_store.specs.declared.scalars.Scalar.{Scalar}
+use Rattle.wb_store.specs.declared.scalars.Scalar.TheVariants as scalars
+use Rattle.wb_validity.specs.Valid.{has_feature}
+use Rattle.wb_store.proofs.Found.{is_itself}
+use Rattle.wb_store.proofs.Members.{In, In-all, any_In}
+use Rattle.wb_store.proofs.Members.In.{here, there}
 use Rattle.wb_model_json.specs.declared.model_text.ScalarText.{ScalarText}
 use Rattle.wb_model_json.specs.declared.model_text.ScalarText.TheVariants.{Number, Flag, Words}
 use Rattle.wb_model_json.specs.declared.model_text.SlotText.{SlotText}

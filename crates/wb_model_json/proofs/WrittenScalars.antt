@@ -15,11 +15,12 @@ use Rattle.wb_metamodel.specs.WellFormed.{WellFormed}
 use Rattle.wb_metamodel.specs.declared.classes.Enumeration.{Enumeration}
 use Rattle.wb_metamodel.specs.declared.features.Kind.{Kind}
 use Rattle.wb_metamodel.specs.declared.features.Kind.TheVariants as kinds
-use Rattle.wb_model.specs.declared.scalars.Scalar.{Scalar}
-use Rattle.wb_model.specs.declared.scalars.Scalar.TheVariants as scalars
-use Rattle.wb_model.specs.Contents.{Contents}
-use Rattle.wb_model.specs.Valid.{is_many, is_of_kind}
-use Rattle.wb_model.proofs.Members.{In, In-all}
+use Rattle.wb_store.specs.declared.scalars.Scalar.{Scalar}
+use Rattle.wb_store.specs.declared.scalars.Scalar.TheVariants as scalars
+use Rattle.wb_store.specs.Contents.{Contents}
+use Rattle.wb_store.specs.Features.{is_many}
+use Rattle.wb_validity.specs.Valid.{is_of_kind}
+use Rattle.wb_store.proofs.Members.{In, In-all}
 use Rattle.wb_model_json.specs.declared.model_text.ScalarText.{ScalarText}
 use Rattle.wb_model_json.specs.declared.model_text.ScalarText.TheVariants.{Number, Flag, Words}
 use Rattle.wb_model_json.specs.declared.model_text.SlotText.{SlotText}

@@ -5,7 +5,7 @@ use Rattle.wb_aql_syntax.proofs.Nodes.{tree_collection, tree_unary, tree_binary,
 use Rattle.wb_aql_syntax.proofs.Weights.{weight, elements_weight, arguments_weight, next_element}
 use Rattle.wb_aql_services.specs.declared.arguments.Argument.TheVariants.{Of}
 use Rattle.wb_aql_values.specs.declared.values.Value.TheVariants.{Null, One}
-use Rattle.wb_model.specs.declared.scalars.Scalar.{Scalar}
+use Rattle.wb_store.specs.declared.scalars.Scalar.{Scalar}
 use Rattle.wb_aql_values.specs.Bounds.{IsBounded}
 use Rattle.wb_aql_values.specs.Values.{collection, members, sort_of, put}
 use Rattle.wb_aql_values.specs.Readings.{contents, done, given, each, gather, of_each, ◌>>=◌}
