@@ -1,9 +1,9 @@
 -- Two arguments are none that a service takes.
 use Rattle.std.proofs.Common.{◌≡◌, ◌≤◌, false, List, [], ◌∷◌, length, refl, arith}
-use Rattle.wb_aql_syntax.specs.View.{arguments_in}
-use Rattle.wb_aql_syntax.specs.declared.expr.Node.{Node}
-use Rattle.wb_aql_syntax.specs.declared.expr.Argument.{Argument}
-use Rattle.wb_aql_syntax.specs.declared.expr.Argument.TheVariants as a
+use Rattle.wb_aql_grammar.specs.View.{arguments_in}
+use Rattle.wb_aql_grammar.specs.declared.expr.Node.{Node}
+use Rattle.wb_aql_grammar.specs.declared.expr.Argument.{Argument}
+use Rattle.wb_aql_grammar.specs.declared.expr.Argument.TheVariants as a
 use Rattle.wb_aql_check.specs.Services.{fits}
 use Rattle.wb_aql_check.specs.declared.services.Parameters.{Parameters}
 use Rattle.wb_aql_check.specs.declared.services.Parameters.TheVariants as p

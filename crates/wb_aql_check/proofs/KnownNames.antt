@@ -4,8 +4,8 @@ use Rattle.std.specs.Prelude.{is_none}
 use Rattle.std.specs.Option.{option_or, option_map_or}
 use Rattle.std.proofs.lemmas.Bool.{and_parts, and_from, false≢true}
 use Rattle.wb_metamodel.specs.Metamodel.{Metamodel, same_name}
-use Rattle.wb_aql_syntax.specs.Tree.{Tree, Trees, Arguments}
-use Rattle.wb_aql_syntax.specs.Tree as t
+use Rattle.wb_aql_grammar.specs.Tree.{Tree, Trees, Arguments}
+use Rattle.wb_aql_grammar.specs.Tree as t
 use Rattle.wb_aql_check.specs.Checked.{KnownTo}
 use Rattle.wb_aql_check.specs.declared.checked.Origin.{Origin}
 use Rattle.wb_aql_check.specs.declared.checked.Origin.TheVariants as o

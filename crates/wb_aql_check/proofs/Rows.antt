@@ -5,9 +5,9 @@ use Rattle.std.specs.List.{list_all}
 use Rattle.std.specs.Option.{option_map}
 use Rattle.std.specs.Str.{IsUtf8}
 use Rattle.std.proofs.lemmas.Bool.{and_right, and_parts, ltb-true}
-use Rattle.wb_aql_syntax.proofs.Runs.{ascii_text}
-use Rattle.wb_aql_syntax.proofs.Words.{differs}
-use Rattle.wb_aql_syntax.specs.declared.expr.CallKind.{CallKind}
+use Rattle.wb_aql_tokens.proofs.Runs.{ascii_text}
+use Rattle.wb_aql_tokens.proofs.Words.{differs}
+use Rattle.wb_aql_grammar.specs.declared.expr.CallKind.{CallKind}
 use Rattle.wb_aql_check.specs.Services.{Row, services, service_named, is_named, same_kind}
 
 -- the first row is not it, and none of the others is

@@ -3,17 +3,17 @@ use Rattle.std.proofs.Common.{◌≡◌, ℕ, List, [], ◌∷◌, Option, Some,
 use Rattle.std.specs.Option.{option_or}
 use Rattle.std.specs.Result.{IsErrAnd}
 use Rattle.wb_metamodel.specs.Metamodel.{Metamodel}
-use Rattle.wb_aql_syntax.specs.View.{tree_of, trees_in, arguments_in}
-use Rattle.wb_aql_syntax.specs.declared.expr.Node.{Node}
-use Rattle.wb_aql_syntax.specs.declared.expr.Node.TheVariants as v
-use Rattle.wb_aql_syntax.specs.declared.expr.Unary.{Unary}
-use Rattle.wb_aql_syntax.specs.declared.expr.Binary.{Binary}
-use Rattle.wb_aql_syntax.specs.declared.expr.Constant.{Constant}
-use Rattle.wb_aql_syntax.specs.declared.expr.CallKind.{CallKind}
-use Rattle.wb_aql_syntax.specs.declared.expr.CollectionKind.{CollectionKind}
-use Rattle.wb_aql_syntax.specs.declared.expr.Argument.{Argument}
-use Rattle.wb_aql_syntax.specs.declared.expr.Argument.TheVariants as a
-use Rattle.wb_aql_syntax.proofs.Nodes.{tree_integer, tree_text, tree_constant, tree_variable, tree_literal, tree_collection, tree_unary, tree_binary, tree_conditional, tree_let_in, tree_feature, tree_call}
+use Rattle.wb_aql_grammar.specs.View.{tree_of, trees_in, arguments_in}
+use Rattle.wb_aql_grammar.specs.declared.expr.Node.{Node}
+use Rattle.wb_aql_grammar.specs.declared.expr.Node.TheVariants as v
+use Rattle.wb_aql_grammar.specs.declared.expr.Unary.{Unary}
+use Rattle.wb_aql_grammar.specs.declared.expr.Binary.{Binary}
+use Rattle.wb_aql_grammar.specs.declared.expr.Constant.{Constant}
+use Rattle.wb_aql_grammar.specs.declared.expr.CallKind.{CallKind}
+use Rattle.wb_aql_grammar.specs.declared.expr.CollectionKind.{CollectionKind}
+use Rattle.wb_aql_grammar.specs.declared.expr.Argument.{Argument}
+use Rattle.wb_aql_grammar.specs.declared.expr.Argument.TheVariants as a
+use Rattle.wb_aql_grammar.proofs.Nodes.{tree_integer, tree_text, tree_constant, tree_variable, tree_literal, tree_collection, tree_unary, tree_binary, tree_conditional, tree_let_in, tree_feature, tree_call}
 use Rattle.wb_aql_check.specs.Answers.{Answers, Refuses}
 use Rattle.wb_aql_check.specs.Names.{first_wrong, first_wrong_element, first_wrong_argument, unless, is_in, is_literal, is_feature, is_class, wrong_service}
 use Rattle.wb_aql_check.specs.Services.{service_named}

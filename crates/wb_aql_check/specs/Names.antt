@@ -3,10 +3,10 @@ use Rattle.std.specs.Prelude.{◌≡◌, ℕ, Bool, true, false, ◌&&◌, List,
 use Rattle.std.specs.List.{list_any}
 use Rattle.std.specs.Option.{option_map_or, option_or}
 use Rattle.wb_metamodel.specs.Metamodel.{Metamodel, same_name, class_named, enum_named, literal_named}
-use Rattle.wb_metamodel.specs.declared.features.Feature.{Feature}
-use Rattle.wb_aql_syntax.specs.Tree.{Tree, Trees, Arguments}
-use Rattle.wb_aql_syntax.specs.Tree as t
-use Rattle.wb_aql_syntax.specs.declared.expr.CallKind.{CallKind}
+use Rattle.wb_ecore.specs.declared.features.Feature.{Feature}
+use Rattle.wb_aql_grammar.specs.Tree.{Tree, Trees, Arguments}
+use Rattle.wb_aql_grammar.specs.Tree as t
+use Rattle.wb_aql_grammar.specs.declared.expr.CallKind.{CallKind}
 use Rattle.wb_aql_check.specs.Services.{service_named, fits}
 use Rattle.wb_aql_check.specs.declared.services.Callee.{Callee}
 use Rattle.wb_aql_check.specs.declared.services.Parameters.{Parameters}

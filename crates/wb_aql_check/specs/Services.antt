@@ -1,10 +1,10 @@
 -- The services: how each is called, its name, and what it takes between its parentheses.
 use Rattle.std.specs.Prelude.{ℕ, Bool, true, false, ◌&&◌, List, [], ◌∷◌, Option, codes, find, bytes_eq}
 use Rattle.std.specs.Option.{option_map}
-use Rattle.wb_aql_syntax.specs.Tree.{Arguments}
-use Rattle.wb_aql_syntax.specs.Tree as t
-use Rattle.wb_aql_syntax.specs.declared.expr.CallKind.{CallKind}
-use Rattle.wb_aql_syntax.specs.declared.expr.CallKind.TheVariants.{Dot, Arrow}
+use Rattle.wb_aql_grammar.specs.Tree.{Arguments}
+use Rattle.wb_aql_grammar.specs.Tree as t
+use Rattle.wb_aql_grammar.specs.declared.expr.CallKind.{CallKind}
+use Rattle.wb_aql_grammar.specs.declared.expr.CallKind.TheVariants.{Dot, Arrow}
 use Rattle.wb_aql_check.specs.declared.services.Service.{Service}
 use Rattle.wb_aql_check.specs.declared.services.Service.TheVariants as s
 use Rattle.wb_aql_check.specs.declared.services.Iteration.{Iteration}

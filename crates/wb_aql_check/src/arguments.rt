@@ -1,5 +1,5 @@
 ghost use Rattle.std.specs.Prelude.{◌≡◌, [], ◌∷◌};
-ghost use Rattle.wb_aql_syntax.specs.View.{arguments_in};
+ghost use Rattle.wb_aql_grammar.specs.View.{arguments_in};
 ghost use Rattle.wb_aql_check.specs.Services.{fits};
 
 use crate::services::Parameters;

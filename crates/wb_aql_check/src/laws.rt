@@ -1,7 +1,7 @@
 ghost use Rattle.std.specs.Prelude.{◌≡◌, ◌↔◌, ℕ, List, None, true};
 ghost use Rattle.wb_metamodel.specs.Metamodel.{Metamodel};
-ghost use Rattle.wb_aql_syntax.specs.Tree.{Tree};
-ghost use Rattle.wb_aql_syntax.specs.Expressions.{IsExpression, SpellsText};
+ghost use Rattle.wb_aql_grammar.specs.Tree.{Tree};
+ghost use Rattle.wb_aql_grammar.specs.Expressions.{IsExpression, SpellsText};
 ghost use Rattle.wb_aql_syntax.specs.Printed.{printed};
 ghost use Rattle.wb_aql_check.specs.Checked.{KnownTo};
 ghost use Rattle.wb_aql_check.specs.Names.{IsWithin, knows, first_wrong};

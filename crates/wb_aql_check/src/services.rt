@@ -1,6 +1,6 @@
 ghost use Rattle.std.specs.Prelude.{◌≡◌};
 ghost use Rattle.wb_aql_check.specs.Services.{service_named};
-ghost use Rattle.wb_aql_syntax.specs.declared.expr.CallKind.TheVariants.{Dot, Arrow};
+ghost use Rattle.wb_aql_grammar.specs.declared.expr.CallKind.TheVariants.{Dot, Arrow};
 
 use wb_aql_syntax::CallKind;
 

@@ -1,5 +1,5 @@
 ghost use Rattle.std.specs.Prelude.{◌≡◌};
-ghost use Rattle.wb_aql_syntax.specs.View.{arguments_in};
+ghost use Rattle.wb_aql_grammar.specs.View.{arguments_in};
 ghost use Rattle.wb_aql_check.specs.Answers.{Answers};
 ghost use Rattle.wb_aql_check.specs.Names.{is_in, is_feature, is_class, is_literal, unless, wrong_service};
 ghost use Rattle.wb_aql_check.specs.Scopes.{names_of};

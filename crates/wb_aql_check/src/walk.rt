@@ -1,5 +1,5 @@
 ghost use Rattle.std.specs.Prelude.{◌≡◌, ◌∷◌, []};
-ghost use Rattle.wb_aql_syntax.specs.View.{tree_of, trees_in, arguments_in};
+ghost use Rattle.wb_aql_grammar.specs.View.{tree_of, trees_in, arguments_in};
 ghost use Rattle.wb_aql_check.specs.Answers.{Answers};
 ghost use Rattle.wb_aql_check.specs.Names.{first_wrong, first_wrong_element, first_wrong_argument};
 ghost use Rattle.wb_aql_check.specs.Scopes.{names_of};

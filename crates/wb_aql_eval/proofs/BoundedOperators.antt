@@ -3,11 +3,11 @@ use Rattle.std.proofs.Common.{◌≡◌, ℕ, Bool, true, false, not, ◌||◌, 
 use Rattle.std.specs.Prelude.{ℤ, pos, int_div, neg_ℤ, ◌+ℤ◌, ◌-ℤ◌, ◌*ℤ◌}
 use Rattle.std.specs.Ordering.{int_eq}
 use Rattle.wb_metamodel.specs.Metamodel.{Metamodel}
-use Rattle.wb_model.specs.declared.scalars.Scalar.TheVariants.{Int, Text}
-use Rattle.wb_aql_syntax.specs.declared.expr.Unary.{Unary}
-use Rattle.wb_aql_syntax.specs.declared.expr.Unary.TheVariants as u
-use Rattle.wb_aql_syntax.specs.declared.expr.Binary.{Binary}
-use Rattle.wb_aql_syntax.specs.declared.expr.Binary.TheVariants as o
+use Rattle.wb_store.specs.declared.scalars.Scalar.TheVariants.{Int, Text}
+use Rattle.wb_aql_grammar.specs.declared.expr.Unary.{Unary}
+use Rattle.wb_aql_grammar.specs.declared.expr.Unary.TheVariants as u
+use Rattle.wb_aql_grammar.specs.declared.expr.Binary.{Binary}
+use Rattle.wb_aql_grammar.specs.declared.expr.Binary.TheVariants as o
 use Rattle.wb_aql_values.specs.declared.faults.Fault.{Fault}
 use Rattle.wb_aql_values.specs.declared.faults.Fault.TheVariants.{Overflow, DivideByZero}
 use Rattle.wb_aql_values.specs.declared.faults.Stop.{Stop}

@@ -6,10 +6,10 @@ use Rattle.std.specs.Prelude.{slice_get, filter}
 use Rattle.std.specs.List.{list_all, before_first, after_first, starts_with}
 use Rattle.std.specs.Option.{option_map_or}
 use Rattle.wb_metamodel.specs.Metamodel.{Metamodel}
-use Rattle.wb_model.specs.declared.scalars.Cell.{Cell}
-use Rattle.wb_model.specs.declared.scalars.Cell.TheVariants.{Kind, Tree}
-use Rattle.wb_model.specs.declared.scalars.Scalar.{Scalar}
-use Rattle.wb_model.specs.declared.scalars.Scalar.TheVariants.{Int, Bool as Boolean, Text, Literal, Object}
+use Rattle.wb_store.specs.declared.scalars.Cell.{Cell}
+use Rattle.wb_store.specs.declared.scalars.Cell.TheVariants.{Kind, Tree}
+use Rattle.wb_store.specs.declared.scalars.Scalar.{Scalar}
+use Rattle.wb_store.specs.declared.scalars.Scalar.TheVariants.{Int, Bool as Boolean, Text, Literal, Object}
 use Rattle.wb_aql_check.specs.declared.services.Service.{Service}
 use Rattle.wb_aql_check.specs.declared.services.Service.TheVariants as s
 use Rattle.wb_aql_services.specs.declared.arguments.Argument.{Argument}

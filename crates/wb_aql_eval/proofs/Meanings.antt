@@ -1,18 +1,18 @@
 -- The meaning of each node.
 use Rattle.std.proofs.Common.{◌≡◌, ◌≤◌, ◌<◌, ℕ, List, [], ◌∷◌, length, get_or, refl, sym, ap, ◌∙◌, arith}
 use Rattle.wb_metamodel.specs.Metamodel.{Metamodel, class_named}
-use Rattle.wb_aql_syntax.specs.View.{tree_of, trees_in, arguments_in}
-use Rattle.wb_aql_syntax.specs.declared.expr.Node.{Node}
-use Rattle.wb_aql_syntax.specs.declared.expr.Node.TheVariants as v
-use Rattle.wb_aql_syntax.specs.declared.expr.Unary.{Unary}
-use Rattle.wb_aql_syntax.specs.declared.expr.Binary.{Binary}
-use Rattle.wb_aql_syntax.specs.declared.expr.Constant.{Constant}
-use Rattle.wb_aql_syntax.specs.declared.expr.CallKind.{CallKind}
-use Rattle.wb_aql_syntax.specs.declared.expr.CollectionKind.{CollectionKind}
-use Rattle.wb_aql_syntax.specs.declared.expr.Argument.{Argument}
-use Rattle.wb_aql_syntax.specs.declared.expr.Argument.TheVariants as a
-use Rattle.wb_aql_syntax.proofs.Nodes.{tree_integer, tree_text, tree_constant, tree_variable, tree_literal, tree_collection, tree_unary, tree_binary, tree_conditional, tree_let_in, tree_feature, tree_call}
-use Rattle.wb_model.specs.declared.scalars.Scalar.{Scalar}
+use Rattle.wb_aql_grammar.specs.View.{tree_of, trees_in, arguments_in}
+use Rattle.wb_aql_grammar.specs.declared.expr.Node.{Node}
+use Rattle.wb_aql_grammar.specs.declared.expr.Node.TheVariants as v
+use Rattle.wb_aql_grammar.specs.declared.expr.Unary.{Unary}
+use Rattle.wb_aql_grammar.specs.declared.expr.Binary.{Binary}
+use Rattle.wb_aql_grammar.specs.declared.expr.Constant.{Constant}
+use Rattle.wb_aql_grammar.specs.declared.expr.CallKind.{CallKind}
+use Rattle.wb_aql_grammar.specs.declared.expr.CollectionKind.{CollectionKind}
+use Rattle.wb_aql_grammar.specs.declared.expr.Argument.{Argument}
+use Rattle.wb_aql_grammar.specs.declared.expr.Argument.TheVariants as a
+use Rattle.wb_aql_grammar.proofs.Nodes.{tree_integer, tree_text, tree_constant, tree_variable, tree_literal, tree_collection, tree_unary, tree_binary, tree_conditional, tree_let_in, tree_feature, tree_call}
+use Rattle.wb_store.specs.declared.scalars.Scalar.{Scalar}
 use Rattle.wb_aql_services.specs.declared.arguments.Argument.TheVariants.{Of}
 use Rattle.wb_aql_values.specs.declared.values.Sort.{Sort}
 use Rattle.wb_aql_values.specs.declared.values.Value.{Value}

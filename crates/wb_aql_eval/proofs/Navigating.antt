@@ -3,12 +3,12 @@ use Rattle.std.proofs.Common.{◌≡◌, ◌<◌, ℕ, zero, suc, Bool, true, fa
 use Rattle.std.proofs.lemmas.Bool.{false≢true}
 use Rattle.std.specs.Prelude.{find, slice_get}
 use Rattle.std.specs.Option.{option_map_or}
-use Rattle.wb_metamodel.specs.declared.features.Feature.{Feature}
+use Rattle.wb_ecore.specs.declared.features.Feature.{Feature}
 use Rattle.wb_metamodel.specs.Metamodel.{Metamodel, feature_named, feature_at, features_of, same_name}
-use Rattle.wb_model.specs.declared.scalars.Cell.{Cell}
-use Rattle.wb_model.specs.declared.scalars.Cell.TheVariants.{Slot}
-use Rattle.wb_model.specs.Contents.{Contents, slot}
-use Rattle.wb_model.specs.Valid.{is_many}
+use Rattle.wb_store.specs.declared.scalars.Cell.{Cell}
+use Rattle.wb_store.specs.declared.scalars.Cell.TheVariants.{Slot}
+use Rattle.wb_store.specs.Contents.{Contents, slot}
+use Rattle.wb_store.specs.Features.{is_many}
 use Rattle.wb_aql_values.specs.declared.faults.Fault.TheVariants.{NoFeature}
 use Rattle.wb_aql_values.specs.declared.faults.Stop.{Stop}
 use Rattle.wb_aql_values.specs.declared.values.Value.{Value}

@@ -2,7 +2,7 @@
 use Rattle.std.proofs.Common.{◌≡◌, ℕ, ◌<◌, ◌≤◌, ◌^◌, Bool, true, false, nat_lt, Result, Ok, Err, ap, arith, w64, if◌then◌else◌}
 use Rattle.std.proofs.lemmas.Bool.Decides.{nat_tests}
 use Rattle.std.specs.Prelude.{ℤ, pos, negsuc, FitsSigned}
-use Rattle.wb_model.specs.declared.scalars.Scalar.TheVariants.{Int}
+use Rattle.wb_store.specs.declared.scalars.Scalar.TheVariants.{Int}
 use Rattle.wb_aql_values.specs.declared.faults.Fault.{Fault}
 use Rattle.wb_aql_values.specs.declared.faults.Fault.TheVariants.{Overflow}
 use Rattle.wb_aql_values.specs.declared.values.Value.{Value}

@@ -1,11 +1,11 @@
 -- The run over the objects of a class.
 use Rattle.std.proofs.Common.{◌≡◌, ℕ, List, [], map, Result, Ok, Err, refl, sym, subst, ◌∙◌}
-use Rattle.wb_model.specs.declared.scalars.Cell.{Cell}
-use Rattle.wb_model.specs.declared.scalars.Cell.TheVariants.{Extent}
-use Rattle.wb_model.specs.declared.scalars.Scalar.{Scalar}
-use Rattle.wb_model.specs.declared.scalars.Scalar.TheVariants.{Object}
-use Rattle.wb_model.specs.Contents.{Contents}
-use Rattle.wb_model.specs.Cells.{extent}
+use Rattle.wb_store.specs.declared.scalars.Cell.{Cell}
+use Rattle.wb_store.specs.declared.scalars.Cell.TheVariants.{Extent}
+use Rattle.wb_store.specs.declared.scalars.Scalar.{Scalar}
+use Rattle.wb_store.specs.declared.scalars.Scalar.TheVariants.{Object}
+use Rattle.wb_store.specs.Contents.{Contents}
+use Rattle.wb_store.specs.Cells.{extent}
 use Rattle.wb_aql_values.specs.declared.faults.Fault.{Fault}
 use Rattle.wb_aql_values.specs.declared.faults.Stop.{Stop}
 use Rattle.wb_aql_values.specs.declared.faults.Stop.TheVariants as s

@@ -1,8 +1,8 @@
 -- What a service gives is within the bounds of a value.
 use Rattle.std.specs.Prelude.{⊤}
 use Rattle.std.proofs.Common.{List, [], ◌∷◌, Result, IfOk}
-use Rattle.wb_model.specs.declared.scalars.Cell.{Cell}
-use Rattle.wb_model.specs.Contents.{Contents}
+use Rattle.wb_store.specs.declared.scalars.Cell.{Cell}
+use Rattle.wb_store.specs.Contents.{Contents}
 use Rattle.wb_aql_check.specs.declared.services.Service.{Service}
 use Rattle.wb_aql_services.specs.declared.arguments.Argument.{Argument}
 use Rattle.wb_aql_services.specs.Asked.{value_in, IsArgument}

@@ -3,9 +3,9 @@ use Rattle.std.proofs.Common.{◌≡◌, ◌≤◌, ℕ, Bool, true, false, not,
 use Rattle.std.proofs.lemmas.Bool.{false≢true}
 use Rattle.std.specs.List.{list_all, list_any}
 use Rattle.wb_metamodel.specs.Metamodel.{Metamodel}
-use Rattle.wb_model.specs.declared.scalars.Scalar.{Scalar}
-use Rattle.wb_model.specs.Scalars.{same}
-use Rattle.wb_model.specs.Valid.{differ}
+use Rattle.wb_store.specs.declared.scalars.Scalar.{Scalar}
+use Rattle.wb_store.specs.Scalars.{same}
+use Rattle.wb_validity.specs.Valid.{differ}
 use Rattle.wb_aql_values.specs.declared.values.Value.{Value}
 use Rattle.wb_aql_values.specs.declared.values.Value.TheVariants.{Null, One, Sequence, OrderedSet}
 use Rattle.wb_aql_values.specs.Values.{members, sort_of, collection}

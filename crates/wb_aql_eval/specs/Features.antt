@@ -1,10 +1,10 @@
 -- Features of values.
 use Rattle.std.specs.Prelude.{ℕ, Bool, true, false, List, [], ◌∷◌, Option, Some, None, Result, Ok, Err}
 use Rattle.wb_metamodel.specs.Metamodel.{Metamodel, feature_named}
-use Rattle.wb_model.specs.declared.scalars.Scalar.{Scalar}
-use Rattle.wb_model.specs.declared.scalars.Scalar.TheVariants.{Object}
-use Rattle.wb_model.specs.declared.scalars.Cell.TheVariants.{Slot}
-use Rattle.wb_model.specs.Valid.{is_many}
+use Rattle.wb_store.specs.declared.scalars.Scalar.{Scalar}
+use Rattle.wb_store.specs.declared.scalars.Scalar.TheVariants.{Object}
+use Rattle.wb_store.specs.declared.scalars.Cell.TheVariants.{Slot}
+use Rattle.wb_store.specs.Features.{is_many}
 use Rattle.wb_aql_values.specs.declared.faults.Fault.{Fault}
 use Rattle.wb_aql_values.specs.declared.faults.Fault.TheVariants.{NoFeature, NotAnObject}
 use Rattle.wb_aql_values.specs.declared.values.Value.{Value}

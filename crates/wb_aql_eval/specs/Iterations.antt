@@ -1,7 +1,7 @@
 -- The services that evaluate an expression for each member of their receiver.
 use Rattle.std.specs.Prelude.{Bool, true, false, not, is_some, List, [], ◌∷◌, ◌++◌, Option, Some, None, if◌then◌else◌}
 use Rattle.std.specs.Bool.{beq}
-use Rattle.wb_model.specs.declared.scalars.Scalar.{Scalar}
+use Rattle.wb_store.specs.declared.scalars.Scalar.{Scalar}
 use Rattle.wb_aql_check.specs.declared.services.Iteration.{Iteration}
 use Rattle.wb_aql_check.specs.declared.services.Iteration.TheVariants as i
 use Rattle.wb_aql_values.specs.declared.values.Value.{Value}

@@ -2,16 +2,16 @@
 use Rattle.std.specs.Prelude.{ℕ, ◌^◌, nat_le, true, false, List, [], ◌∷◌, length, Option, Some, None, Result, Ok, Err, pos, if◌then◌else◌}
 use Rattle.std.specs.Option.{option_map_or}
 use Rattle.wb_metamodel.specs.Metamodel.{Metamodel, class_named, enum_named, literal_named}
-use Rattle.wb_model.specs.declared.scalars.Scalar.{Scalar}
-use Rattle.wb_model.specs.declared.scalars.Scalar.TheVariants.{Text, Literal}
-use Rattle.wb_aql_syntax.specs.Tree.{Tree, Trees, Arguments}
-use Rattle.wb_aql_syntax.specs.Tree as t
-use Rattle.wb_aql_syntax.specs.declared.expr.Constant.{Constant}
-use Rattle.wb_aql_syntax.specs.declared.expr.Constant.TheVariants as c
-use Rattle.wb_aql_syntax.specs.declared.expr.CallKind.{CallKind}
-use Rattle.wb_aql_syntax.specs.declared.expr.Binary.{Binary}
-use Rattle.wb_aql_syntax.specs.declared.expr.CollectionKind.{CollectionKind}
-use Rattle.wb_aql_syntax.specs.declared.expr.CollectionKind.TheVariants as k
+use Rattle.wb_store.specs.declared.scalars.Scalar.{Scalar}
+use Rattle.wb_store.specs.declared.scalars.Scalar.TheVariants.{Text, Literal}
+use Rattle.wb_aql_grammar.specs.Tree.{Tree, Trees, Arguments}
+use Rattle.wb_aql_grammar.specs.Tree as t
+use Rattle.wb_aql_grammar.specs.declared.expr.Constant.{Constant}
+use Rattle.wb_aql_grammar.specs.declared.expr.Constant.TheVariants as c
+use Rattle.wb_aql_grammar.specs.declared.expr.CallKind.{CallKind}
+use Rattle.wb_aql_grammar.specs.declared.expr.Binary.{Binary}
+use Rattle.wb_aql_grammar.specs.declared.expr.CollectionKind.{CollectionKind}
+use Rattle.wb_aql_grammar.specs.declared.expr.CollectionKind.TheVariants as k
 use Rattle.wb_aql_check.specs.Services.{service_named}
 use Rattle.wb_aql_services.specs.Services.{meaning as served}
 use Rattle.wb_aql_check.specs.declared.services.Callee.{Callee}

@@ -1,9 +1,9 @@
 -- What is evaluated as a whole gives over a model, and the cells that it reads.
 use Rattle.std.specs.Prelude.{◌≡◌, ℕ, List, [], map, All}
 use Rattle.wb_metamodel.specs.Metamodel.{Metamodel}
-use Rattle.wb_model.specs.declared.scalars.Scalar.TheVariants.{Object}
-use Rattle.wb_model.specs.declared.scalars.Cell.TheVariants.{Extent}
-use Rattle.wb_model.specs.Contents.{Contents}
+use Rattle.wb_store.specs.declared.scalars.Scalar.TheVariants.{Object}
+use Rattle.wb_store.specs.declared.scalars.Cell.TheVariants.{Extent}
+use Rattle.wb_store.specs.Contents.{Contents}
 use Rattle.wb_aql_check.specs.declared.checked.Origin.{Origin}
 use Rattle.wb_aql_check.specs.declared.checked.Origin.TheVariants as o
 use Rattle.wb_aql_values.specs.declared.values.Sort.TheVariants as sort

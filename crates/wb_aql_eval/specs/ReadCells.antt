@@ -1,8 +1,8 @@
 -- Lists of cells that are read: when none is there twice, and when two models are alike at them.
 use Rattle.std.specs.Prelude.{◌≡◌, Bool, true, not, ◌&&◌, List, [], ◌∷◌, All}
 use Rattle.std.specs.List.{list_any}
-use Rattle.wb_model.specs.declared.scalars.Cell.{Cell}
-use Rattle.wb_model.specs.Contents.{Contents}
+use Rattle.wb_store.specs.declared.scalars.Cell.{Cell}
+use Rattle.wb_store.specs.Contents.{Contents}
 use Rattle.wb_aql_values.specs.Cells.{same_cell}
 use Rattle.wb_aql_values.specs.Readings.{contents}
 

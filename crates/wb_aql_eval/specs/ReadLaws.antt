@@ -5,9 +5,9 @@ use Rattle.std.proofs.lemmas.List.Elements.{All-head, All-tail, All-pop}
 use Rattle.std.proofs.lemmas.List.Folds.{list_any-append}
 use Rattle.std.specs.Prelude.{All}
 use Rattle.std.specs.List.{list_any}
-use Rattle.wb_model.specs.declared.scalars.Cell.{Cell}
-use Rattle.wb_model.specs.declared.scalars.Cell.TheVariants.{Kind, Slot, Holder, Tree, Inverse, Extent, Roots}
-use Rattle.wb_model.specs.Contents.{Contents}
+use Rattle.wb_store.specs.declared.scalars.Cell.{Cell}
+use Rattle.wb_store.specs.declared.scalars.Cell.TheVariants.{Kind, Slot, Holder, Tree, Inverse, Extent, Roots}
+use Rattle.wb_store.specs.Contents.{Contents}
 use Rattle.wb_aql_check.specs.declared.checked.Origin.{Origin}
 use Rattle.wb_aql_values.specs.Cells.{same_cell}
 use Rattle.wb_aql_values.specs.Readings.{Content, Reading, done, fail, look, contents}

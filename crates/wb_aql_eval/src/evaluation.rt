@@ -1,6 +1,6 @@
 ghost use Rattle.std.specs.Prelude.{◌≡◌, ◌+◌, ◌<◌, IfOk, length, map};
 ghost use Rattle.wb_aql_check.specs.Checked.{IsChecked};
-ghost use Rattle.wb_model.specs.declared.scalars.Scalar.TheVariants.{Object};
+ghost use Rattle.wb_store.specs.declared.scalars.Scalar.TheVariants.{Object};
 ghost use Rattle.wb_aql_values.specs.Bounds.{IsBounded};
 ghost use Rattle.wb_aql_values.specs.Readings.{contents};
 ghost use Rattle.wb_aql_values.specs.Runs.{Gives, answered, run};

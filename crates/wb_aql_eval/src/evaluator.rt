@@ -15,7 +15,7 @@ use wb_outer::Steps;
 /// What finds the outcomes of expressions. The type fixes them; each evaluation is counted.
 pub trait Evaluator {
     ghost use Rattle.std.specs.Prelude.{List, ℕ};
-    ghost use Rattle.wb_model.specs.Contents.{Contents};
+    ghost use Rattle.wb_store.specs.Contents.{Contents};
     ghost use Rattle.wb_aql_check.specs.declared.checked.Origin.{Origin};
     ghost use Rattle.wb_aql_values.specs.declared.values.Value.{Value};
     ghost use Rattle.wb_aql_values.specs.Runs.{Ran};

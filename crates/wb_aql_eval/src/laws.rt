@@ -1,7 +1,7 @@
 //! What is true of the reads of every outcome. These functions do nothing when they run.
 
 ghost use Rattle.std.specs.Prelude.{◌≡◌, ℕ, List, true};
-ghost use Rattle.wb_model.specs.Contents.{Contents};
+ghost use Rattle.wb_store.specs.Contents.{Contents};
 ghost use Rattle.wb_aql_check.specs.declared.checked.Origin.{Origin};
 ghost use Rattle.wb_aql_eval.specs.declared.env.Env.{Env};
 ghost use Rattle.wb_aql_eval.specs.Outcomes.{outcome_of};

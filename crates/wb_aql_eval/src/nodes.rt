@@ -1,5 +1,5 @@
 ghost use Rattle.std.specs.Prelude.{◌≡◌, true, [], ◌∷◌, IfOk, OnOk};
-ghost use Rattle.wb_aql_syntax.specs.View.{tree_of, trees_in, arguments_in};
+ghost use Rattle.wb_aql_grammar.specs.View.{tree_of, trees_in, arguments_in};
 ghost use Rattle.wb_aql_values.specs.Bounds.{IsBounded, is_bounded};
 ghost use Rattle.wb_aql_values.specs.Values.{members, collection, sort_of};
 ghost use Rattle.wb_aql_values.specs.Readings.{contents, done, given, gather, of_each};

@@ -1,7 +1,7 @@
 -- The services that no line of a definition names.
 use Rattle.std.proofs.Common.{◌≡◌, ℕ, Option, refl}
 use Rattle.wb_metamodel.specs.Metamodel.{Metamodel}
-use Rattle.wb_model.specs.declared.scalars.Scalar.{Scalar}
+use Rattle.wb_store.specs.declared.scalars.Scalar.{Scalar}
 use Rattle.wb_aql_check.specs.declared.services.Service.{Service}
 use Rattle.wb_aql_check.specs.declared.services.Service.TheVariants as s
 use Rattle.wb_aql_values.specs.declared.values.Value.{Value}

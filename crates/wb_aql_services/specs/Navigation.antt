@@ -4,11 +4,11 @@ use Rattle.std.specs.Prelude.{ℕ, zero, suc, nat_eq, not, List, [], ◌∷◌, 
 use Rattle.std.specs.Option.{option_map_or}
 use Rattle.std.specs.List.{before_first, after_first}
 use Rattle.wb_metamodel.specs.Metamodel.{Metamodel, features_of}
-use Rattle.wb_model.specs.declared.scalars.Scalar.{Scalar}
-use Rattle.wb_model.specs.declared.scalars.Scalar.TheVariants.{Object}
-use Rattle.wb_model.specs.declared.scalars.Cell.TheVariants.{Kind, Slot, Holder, Tree, Inverse, Roots}
-use Rattle.wb_model.specs.Contents.{is_containment}
-use Rattle.wb_model.specs.Cells.{objects_in}
+use Rattle.wb_store.specs.declared.scalars.Scalar.{Scalar}
+use Rattle.wb_store.specs.declared.scalars.Scalar.TheVariants.{Object}
+use Rattle.wb_store.specs.declared.scalars.Cell.TheVariants.{Kind, Slot, Holder, Tree, Inverse, Roots}
+use Rattle.wb_store.specs.Contents.{is_containment}
+use Rattle.wb_store.specs.Cells.{objects_in}
 use Rattle.wb_aql_check.specs.declared.services.Service.{Service}
 use Rattle.wb_aql_check.specs.declared.services.Service.TheVariants as s
 use Rattle.wb_aql_values.specs.declared.faults.Fault.TheVariants.{NotAnObject}

@@ -1,7 +1,7 @@
 ghost use Rattle.std.specs.Prelude.{◌≡◌, ◌<◌, ◌++◌, All, OnOk, length};
 ghost use Rattle.wb_metamodel.specs.Metamodel.{features_of};
-ghost use Rattle.wb_model.specs.Cells.{objects_in};
-ghost use Rattle.wb_model.specs.Contents.{is_containment};
+ghost use Rattle.wb_store.specs.Cells.{objects_in};
+ghost use Rattle.wb_store.specs.Contents.{is_containment};
 ghost use Rattle.wb_aql_services.specs.Asked.{IsType};
 ghost use Rattle.wb_aql_services.specs.Navigation.{content, e_all_contents, e_contents, with_slot};
 ghost use Rattle.wb_aql_values.specs.Readings.{contents};

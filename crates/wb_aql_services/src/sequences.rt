@@ -1,5 +1,5 @@
 ghost use Rattle.std.specs.Prelude.{◌≡◌, IfOk, map};
-ghost use Rattle.wb_model.specs.declared.scalars.Scalar.TheVariants.{Object};
+ghost use Rattle.wb_store.specs.declared.scalars.Scalar.TheVariants.{Object};
 ghost use Rattle.wb_aql_services.specs.Asked.{IsType};
 ghost use Rattle.wb_aql_services.specs.Navigation.{sequence};
 ghost use Rattle.wb_aql_values.specs.Readings.{contents};

@@ -1,7 +1,7 @@
 ghost use Rattle.std.specs.Prelude.{◌≡◌, ◌≤◌, filter, IfOk, length, map, nat_eq, not};
 ghost use Rattle.std.specs.List.{after_first, before_first, position_or_len};
-ghost use Rattle.wb_model.specs.declared.scalars.Cell.TheVariants.{Roots};
-ghost use Rattle.wb_model.specs.declared.scalars.Scalar.TheVariants.{Object};
+ghost use Rattle.wb_store.specs.declared.scalars.Cell.TheVariants.{Roots};
+ghost use Rattle.wb_store.specs.declared.scalars.Scalar.TheVariants.{Object};
 ghost use Rattle.wb_aql_services.specs.Navigation.{beside, content_of, e_inverse, following, preceding, siblings};
 ghost use Rattle.wb_aql_values.specs.Readings.{contents, held};
 ghost use Rattle.wb_aql_values.specs.Runs.{Gives, run};

@@ -1,5 +1,5 @@
 ghost use Rattle.std.specs.Prelude.{◌≡◌, ◌<◌, ◌++◌, ◌∷◌, [], IfOk, Some, length};
-ghost use Rattle.wb_model.specs.declared.scalars.Cell.TheVariants.{Kind};
+ghost use Rattle.wb_store.specs.declared.scalars.Cell.TheVariants.{Kind};
 ghost use Rattle.wb_aql_services.specs.Asked.{IsType};
 ghost use Rattle.wb_aql_services.specs.Types.{as_type, conforms_to, is_exactly, is_of, keep, kept, narrowed, object_in, tested};
 ghost use Rattle.wb_aql_values.specs.Readings.{contents, held};

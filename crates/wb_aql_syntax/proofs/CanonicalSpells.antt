@@ -1,26 +1,26 @@
 -- The canonical tokens spell the tree, within its least bounds.
 use Rattle.std.proofs.Common.{◌≡◌, ℕ, suc, zero, ◌≤◌, List, [], ◌∷◌, ◌++◌, Bool, true, false, max, refl, sym, ap, ◌∙◌, subst, arith}
 use Rattle.std.proofs.Math.Nat.{le-max_left, le-max_right}
-use Rattle.wb_aql_syntax.specs.Tree.{Tree, Trees, Arguments, no_trees, trees, no_arguments, lambda, type_named, expression, with_tree, with_lambda, with_type, with_expression}
-use Rattle.wb_aql_syntax.specs.Tree as t
-use Rattle.wb_aql_syntax.specs.Grammar.{Phrase, Expr, Implies, Or, Xor, And, Neg, Cmp, Sum, Term, Unary, Post, Atom, ImpliesMore, OrMore, XorMore, AndMore, CmpMore, SumMore, TermMore, PostMore, CallArguments, Argument, ArgumentMore, Elements, Element, ElementMore, Rest, done, sign, phrase, last, inside, takes_opening, takes_lambda, Reads, reads_done, reads_sign, reads_name, reads_phrase, reads_opening, Spells}
-use Rattle.wb_aql_syntax.specs.Grammar as g
+use Rattle.wb_aql_grammar.specs.Tree.{Tree, Trees, Arguments, no_trees, trees, no_arguments, lambda, type_named, expression, with_tree, with_lambda, with_type, with_expression}
+use Rattle.wb_aql_grammar.specs.Tree as t
+use Rattle.wb_aql_grammar.specs.Grammar.{Phrase, Expr, Implies, Or, Xor, And, Neg, Cmp, Sum, Term, Unary, Post, Atom, ImpliesMore, OrMore, XorMore, AndMore, CmpMore, SumMore, TermMore, PostMore, CallArguments, Argument, ArgumentMore, Elements, Element, ElementMore, Rest, done, sign, phrase, last, inside, takes_opening, takes_lambda, Reads, reads_done, reads_sign, reads_name, reads_phrase, reads_opening, Spells}
+use Rattle.wb_aql_grammar.specs.Grammar as g
 use Rattle.wb_aql_syntax.specs.Canonical.{stands, left_of, right_of, tightness, Piece, blank, token, mark, sign_of, link_of, apart, enclosed, standing, pieces, element_pieces, argument_pieces, tokens_in, canon, enclosed_openings, standing_openings, openings_of, element_openings, argument_openings, lambdas_of, element_lambdas, argument_lambdas}
-use Rattle.wb_aql_syntax.specs.declared.token.Token.{Token}
-use Rattle.wb_aql_syntax.specs.declared.token.Token.TheVariants.{Sign, Name}
-use Rattle.wb_aql_syntax.specs.declared.token.Sign.{Sign as SignName}
-use Rattle.wb_aql_syntax.specs.declared.token.Sign.TheVariants as s
-use Rattle.wb_aql_syntax.specs.declared.expr.Constant.TheVariants as c
-use Rattle.wb_aql_syntax.specs.declared.expr.CollectionKind.{CollectionKind}
-use Rattle.wb_aql_syntax.specs.declared.expr.CollectionKind.TheVariants as k
-use Rattle.wb_aql_syntax.specs.declared.expr.Unary.TheVariants as u
-use Rattle.wb_aql_syntax.specs.declared.expr.Binary.{Binary as BinaryOperator}
-use Rattle.wb_aql_syntax.specs.declared.expr.Binary.TheVariants as b
-use Rattle.wb_aql_syntax.specs.declared.expr.CallKind.{CallKind}
-use Rattle.wb_aql_syntax.specs.declared.expr.CallKind.TheVariants as d
+use Rattle.wb_aql_tokens.specs.declared.token.Token.{Token}
+use Rattle.wb_aql_tokens.specs.declared.token.Token.TheVariants.{Sign, Name}
+use Rattle.wb_aql_tokens.specs.declared.token.Sign.{Sign as SignName}
+use Rattle.wb_aql_tokens.specs.declared.token.Sign.TheVariants as s
+use Rattle.wb_aql_grammar.specs.declared.expr.Constant.TheVariants as c
+use Rattle.wb_aql_grammar.specs.declared.expr.CollectionKind.{CollectionKind}
+use Rattle.wb_aql_grammar.specs.declared.expr.CollectionKind.TheVariants as k
+use Rattle.wb_aql_grammar.specs.declared.expr.Unary.TheVariants as u
+use Rattle.wb_aql_grammar.specs.declared.expr.Binary.{Binary as BinaryOperator}
+use Rattle.wb_aql_grammar.specs.declared.expr.Binary.TheVariants as b
+use Rattle.wb_aql_grammar.specs.declared.expr.CallKind.{CallKind}
+use Rattle.wb_aql_grammar.specs.declared.expr.CallKind.TheVariants as d
 use Rattle.wb_aql_syntax.specs.declared.tightness.Tightness.{Tightness}
 use Rattle.wb_aql_syntax.specs.declared.tightness.Tightness.TheVariants as at
-use Rattle.wb_aql_syntax.proofs.Local.{not_both}
+use Rattle.wb_aql_grammar.proofs.Local.{not_both}
 
 -- ---- the tokens of pieces, before others
 

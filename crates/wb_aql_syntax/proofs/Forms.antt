@@ -1,19 +1,19 @@
 -- The pieces of each form of tree, as they are written.
 use Rattle.std.proofs.Common.{◌≡◌, ℕ, List, [], ◌∷◌, ◌++◌, true, false, Bool, refl, sym, ap, append-nil}
-use Rattle.wb_aql_syntax.specs.Tree.{Tree, Trees, Arguments, no_trees, trees, no_arguments, lambda, type_named, expression}
-use Rattle.wb_aql_syntax.specs.Tree as t
-use Rattle.wb_aql_syntax.specs.View.{tree_of, arguments_in}
+use Rattle.wb_aql_grammar.specs.Tree.{Tree, Trees, Arguments, no_trees, trees, no_arguments, lambda, type_named, expression}
+use Rattle.wb_aql_grammar.specs.Tree as t
+use Rattle.wb_aql_grammar.specs.View.{tree_of, arguments_in}
 use Rattle.wb_aql_syntax.specs.Canonical.{blank, token, mark, apart, prefix, prefix_of, left_of, right_of, sign_of, link_of, word_of_constant, word_of_kind, comma_if, enclosed, standing, pieces, element_pieces, argument_pieces}
-use Rattle.wb_aql_syntax.specs.declared.token.Token.TheVariants.{Name, Integer, Quoted}
-use Rattle.wb_aql_syntax.specs.declared.token.Sign.TheVariants as s
-use Rattle.wb_aql_syntax.specs.declared.expr.Constant.{Constant}
-use Rattle.wb_aql_syntax.specs.declared.expr.CollectionKind.{CollectionKind}
-use Rattle.wb_aql_syntax.specs.declared.expr.Unary.{Unary as UnaryOperator}
-use Rattle.wb_aql_syntax.specs.declared.expr.Binary.{Binary as BinaryOperator}
-use Rattle.wb_aql_syntax.specs.declared.expr.CallKind.{CallKind}
-use Rattle.wb_aql_syntax.specs.declared.expr.Node.{Node}
-use Rattle.wb_aql_syntax.specs.declared.expr.Argument.{Argument}
-use Rattle.wb_aql_syntax.specs.declared.expr.Argument.TheVariants as a
+use Rattle.wb_aql_tokens.specs.declared.token.Token.TheVariants.{Name, Integer, Quoted}
+use Rattle.wb_aql_tokens.specs.declared.token.Sign.TheVariants as s
+use Rattle.wb_aql_grammar.specs.declared.expr.Constant.{Constant}
+use Rattle.wb_aql_grammar.specs.declared.expr.CollectionKind.{CollectionKind}
+use Rattle.wb_aql_grammar.specs.declared.expr.Unary.{Unary as UnaryOperator}
+use Rattle.wb_aql_grammar.specs.declared.expr.Binary.{Binary as BinaryOperator}
+use Rattle.wb_aql_grammar.specs.declared.expr.CallKind.{CallKind}
+use Rattle.wb_aql_grammar.specs.declared.expr.Node.{Node}
+use Rattle.wb_aql_grammar.specs.declared.expr.Argument.{Argument}
+use Rattle.wb_aql_grammar.specs.declared.expr.Argument.TheVariants as a
 use Rattle.wb_aql_syntax.specs.declared.tightness.Tightness.TheVariants as at
 
 pub pieces_integer : (i : ℕ) → pieces (t.Integer i) ≡ token (Integer i) ∷ []

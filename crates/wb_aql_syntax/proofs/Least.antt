@@ -1,26 +1,26 @@
 -- No spelling of a tree has fewer tokens, openings or lambdas than its canonical one.
 use Rattle.std.proofs.Common.{◌≡◌, ℕ, zero, suc, ◌≤◌, ◌+◌, List, false, length, refl, subst, arith, lit≤}
-use Rattle.wb_aql_syntax.specs.Tree.{Tree, Trees, Arguments, no_trees, no_arguments}
-use Rattle.wb_aql_syntax.specs.Tree as t
-use Rattle.wb_aql_syntax.specs.Grammar.{Phrase, Expr, Implies, Or, Xor, And, Neg, Cmp, Sum, Term, Unary, Post, Atom, ImpliesMore, OrMore, XorMore, AndMore, CmpMore, SumMore, TermMore, PostMore, Named, Featured, CallArguments, Argument, ArgumentMore, Elements, Element, ElementMore, openings, lambdas, Rest, done, sign, name, phrase, opening, last, inside, Line, Takes, takes_opening, takes_lambda, Reads, reads_done, reads_sign, reads_name, reads_phrase, reads_opening, Spells}
-use Rattle.wb_aql_syntax.specs.Grammar as g
+use Rattle.wb_aql_grammar.specs.Tree.{Tree, Trees, Arguments, no_trees, no_arguments}
+use Rattle.wb_aql_grammar.specs.Tree as t
+use Rattle.wb_aql_grammar.specs.Grammar.{Phrase, Expr, Implies, Or, Xor, And, Neg, Cmp, Sum, Term, Unary, Post, Atom, ImpliesMore, OrMore, XorMore, AndMore, CmpMore, SumMore, TermMore, PostMore, Named, Featured, CallArguments, Argument, ArgumentMore, Elements, Element, ElementMore, openings, lambdas, Rest, done, sign, name, phrase, opening, last, inside, Line, Takes, takes_opening, takes_lambda, Reads, reads_done, reads_sign, reads_name, reads_phrase, reads_opening, Spells}
+use Rattle.wb_aql_grammar.specs.Grammar as g
 use Rattle.wb_aql_syntax.specs.Canonical.{rank, left_of, right_of, whole_of, pieces, element_pieces, argument_pieces, canon, openings_of, element_openings, argument_openings, lambdas_of, element_lambdas, argument_lambdas}
-use Rattle.wb_aql_syntax.specs.declared.token.Token.{Token}
-use Rattle.wb_aql_syntax.specs.declared.token.Token.TheVariants.{Sign}
-use Rattle.wb_aql_syntax.specs.declared.token.Sign.TheVariants as s
-use Rattle.wb_aql_syntax.specs.declared.expr.Constant.{Constant}
-use Rattle.wb_aql_syntax.specs.declared.expr.Constant.TheVariants as c
-use Rattle.wb_aql_syntax.specs.declared.expr.Binary.{Binary as BinaryOperator}
-use Rattle.wb_aql_syntax.specs.declared.expr.Binary.TheVariants as b
-use Rattle.wb_aql_syntax.specs.declared.expr.CallKind.{CallKind}
-use Rattle.wb_aql_syntax.specs.declared.expr.CallKind.TheVariants as d
-use Rattle.wb_aql_syntax.specs.declared.expr.CollectionKind.{CollectionKind}
-use Rattle.wb_aql_syntax.specs.declared.expr.CollectionKind.TheVariants as k
+use Rattle.wb_aql_tokens.specs.declared.token.Token.{Token}
+use Rattle.wb_aql_tokens.specs.declared.token.Token.TheVariants.{Sign}
+use Rattle.wb_aql_tokens.specs.declared.token.Sign.TheVariants as s
+use Rattle.wb_aql_grammar.specs.declared.expr.Constant.{Constant}
+use Rattle.wb_aql_grammar.specs.declared.expr.Constant.TheVariants as c
+use Rattle.wb_aql_grammar.specs.declared.expr.Binary.{Binary as BinaryOperator}
+use Rattle.wb_aql_grammar.specs.declared.expr.Binary.TheVariants as b
+use Rattle.wb_aql_grammar.specs.declared.expr.CallKind.{CallKind}
+use Rattle.wb_aql_grammar.specs.declared.expr.CallKind.TheVariants as d
+use Rattle.wb_aql_grammar.specs.declared.expr.CollectionKind.{CollectionKind}
+use Rattle.wb_aql_grammar.specs.declared.expr.CollectionKind.TheVariants as k
 use Rattle.wb_aql_syntax.specs.declared.tightness.Tightness.{Tightness}
 use Rattle.wb_aql_syntax.specs.declared.tightness.Tightness.TheVariants as at
 use Rattle.wb_aql_syntax.proofs.Sizes.{count, count_tokens, size_at, open_at, Cost, looser, more, plain, any_tokens, any_opened, in_parentheses, cost_binary, cost_not, cost_negate, cost_if, cost_let, cost_feature, size_call, size_collection, cost_call, cost_collection, element_comma, argument_comma, size_elements, size_expression, size_lambda, size_type, elements_opened, elements_bound, expression_opened, expression_bound, lambda_opened, lambda_bound, type_opened, type_bound}
 use Rattle.wb_aql_syntax.proofs.CanonicalSpells.{spelled}
-use Rattle.wb_aql_syntax.proofs.Unique.{unambiguous}
+use Rattle.wb_aql_grammar.proofs.Unique.{unambiguous}
 
 -- ---- what a phrase costs
 

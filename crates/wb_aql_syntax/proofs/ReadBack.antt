@@ -1,15 +1,15 @@
 -- What is printed is read again.
 use Rattle.std.proofs.Common.{◌≡◌, ℕ, List, true, subst}
-use Rattle.wb_aql_syntax.specs.Tree.{Tree}
-use Rattle.wb_aql_syntax.specs.Grammar.{Spells}
-use Rattle.wb_aql_syntax.specs.Lexes.{Lexes}
-use Rattle.wb_aql_syntax.specs.Expressions.{SpellsText, IsExpression}
+use Rattle.wb_aql_grammar.specs.Tree.{Tree}
+use Rattle.wb_aql_grammar.specs.Grammar.{Spells}
+use Rattle.wb_aql_tokens.specs.Lexes.{Lexes}
+use Rattle.wb_aql_grammar.specs.Expressions.{SpellsText, IsExpression}
 use Rattle.wb_aql_syntax.specs.Canonical.{canon}
 use Rattle.wb_aql_syntax.specs.Printed.{printed, is_writable}
-use Rattle.wb_aql_syntax.specs.declared.token.Token.{Token}
+use Rattle.wb_aql_tokens.specs.declared.token.Token.{Token}
 use Rattle.wb_aql_syntax.proofs.Least.{least_bounds, same_tree}
 use Rattle.wb_aql_syntax.proofs.CanonicalSpells.{spelled_within}
-use Rattle.wb_aql_syntax.proofs.OneLexing.{one_text, all_within}
+use Rattle.wb_aql_tokens.proofs.OneLexing.{one_text, all_within}
 use Rattle.wb_aql_syntax.proofs.Readable.{printed_lexes}
 use Rattle.wb_aql_syntax.proofs.Sound.{writable}
 

@@ -3,19 +3,19 @@ use Rattle.std.proofs.Common.{◌≡◌, ℕ, List, [], ◌∷◌, ◌++◌, Boo
 use Rattle.std.specs.Prelude.{⊤}
 use Rattle.std.specs.List.{list_all}
 use Rattle.std.proofs.lemmas.Bool.{and_parts}
-use Rattle.wb_aql_syntax.specs.Tree.{Tree, Trees, Arguments, no_trees, trees, no_arguments, lambda, type_named, expression}
-use Rattle.wb_aql_syntax.specs.Tree as t
-use Rattle.wb_aql_syntax.specs.Lexes.{is_within, Lexes}
+use Rattle.wb_aql_grammar.specs.Tree.{Tree, Trees, Arguments, no_trees, trees, no_arguments, lambda, type_named, expression}
+use Rattle.wb_aql_grammar.specs.Tree as t
+use Rattle.wb_aql_tokens.specs.Lexes.{is_within, Lexes}
 use Rattle.wb_aql_syntax.specs.Canonical.{Piece, blank, token, mark, apart, left_of, right_of, sign_of, enclosed, stands, standing, tightness, pieces, element_pieces, argument_pieces, tokens_in, canon}
 use Rattle.wb_aql_syntax.specs.Printed.{printed, is_writable}
-use Rattle.wb_aql_syntax.specs.declared.token.Token.{Token}
-use Rattle.wb_aql_syntax.specs.declared.token.Token.TheVariants.{Sign, Name, Integer, Quoted}
-use Rattle.wb_aql_syntax.specs.declared.token.Sign.{Sign as SignName}
-use Rattle.wb_aql_syntax.specs.declared.token.Sign.TheVariants as s
-use Rattle.wb_aql_syntax.specs.declared.expr.Constant.TheVariants as c
-use Rattle.wb_aql_syntax.specs.declared.expr.CollectionKind.TheVariants as k
-use Rattle.wb_aql_syntax.specs.declared.expr.Unary.TheVariants as u
-use Rattle.wb_aql_syntax.specs.declared.expr.CallKind.TheVariants as d
+use Rattle.wb_aql_tokens.specs.declared.token.Token.{Token}
+use Rattle.wb_aql_tokens.specs.declared.token.Token.TheVariants.{Sign, Name, Integer, Quoted}
+use Rattle.wb_aql_tokens.specs.declared.token.Sign.{Sign as SignName}
+use Rattle.wb_aql_tokens.specs.declared.token.Sign.TheVariants as s
+use Rattle.wb_aql_grammar.specs.declared.expr.Constant.TheVariants as c
+use Rattle.wb_aql_grammar.specs.declared.expr.CollectionKind.TheVariants as k
+use Rattle.wb_aql_grammar.specs.declared.expr.Unary.TheVariants as u
+use Rattle.wb_aql_grammar.specs.declared.expr.CallKind.TheVariants as d
 use Rattle.wb_aql_syntax.specs.declared.tightness.Tightness.{Tightness}
 use Rattle.wb_aql_syntax.specs.declared.tightness.Tightness.TheVariants as at
 use Rattle.wb_aql_syntax.proofs.Touching.{Spelled, spelled_name, spelled_integer, spelled_text, closes, begin, opener, Joins, Fine, lexes_fine}

@@ -2,18 +2,18 @@
 use Rattle.std.proofs.Common.{◌≡◌, ℕ, suc, ◌≤◌, ◌+◌, List, [], ◌∷◌, ◌++◌, Bool, true, false, max, length, refl, sym, ap, subst, arith}
 use Rattle.std.proofs.Math.Nat.{max-le}
 use Rattle.std.proofs.lemmas.Bool.{leb-true, le-leb}
-use Rattle.wb_aql_syntax.specs.Tree.{Tree, Trees, Arguments, no_trees, trees, no_arguments, lambda, type_named, expression, with_tree, with_lambda, with_type, with_expression}
-use Rattle.wb_aql_syntax.specs.Tree as t
+use Rattle.wb_aql_grammar.specs.Tree.{Tree, Trees, Arguments, no_trees, trees, no_arguments, lambda, type_named, expression, with_tree, with_lambda, with_type, with_expression}
+use Rattle.wb_aql_grammar.specs.Tree as t
 use Rattle.wb_aql_syntax.specs.Canonical.{rank, stands, whole_of, left_of, right_of, tightness, Piece, blank, token, mark, sign_of, link_of, enclosed, standing, pieces, element_pieces, argument_pieces, tokens_in, enclosed_openings, standing_openings, openings_of, element_openings, argument_openings, lambdas_of, element_lambdas, argument_lambdas}
-use Rattle.wb_aql_syntax.specs.declared.token.Token.TheVariants.{Name}
-use Rattle.wb_aql_syntax.specs.declared.token.Sign.TheVariants as s
-use Rattle.wb_aql_syntax.specs.declared.expr.CollectionKind.{CollectionKind}
-use Rattle.wb_aql_syntax.specs.declared.expr.Unary.TheVariants as u
-use Rattle.wb_aql_syntax.specs.declared.expr.Binary.{Binary as BinaryOperator}
-use Rattle.wb_aql_syntax.specs.declared.expr.CallKind.{CallKind}
+use Rattle.wb_aql_tokens.specs.declared.token.Token.TheVariants.{Name}
+use Rattle.wb_aql_tokens.specs.declared.token.Sign.TheVariants as s
+use Rattle.wb_aql_grammar.specs.declared.expr.CollectionKind.{CollectionKind}
+use Rattle.wb_aql_grammar.specs.declared.expr.Unary.TheVariants as u
+use Rattle.wb_aql_grammar.specs.declared.expr.Binary.{Binary as BinaryOperator}
+use Rattle.wb_aql_grammar.specs.declared.expr.CallKind.{CallKind}
 use Rattle.wb_aql_syntax.specs.declared.tightness.Tightness.{Tightness}
 use Rattle.wb_aql_syntax.specs.declared.tightness.Tightness.TheVariants as at
-use Rattle.wb_aql_syntax.proofs.Local.{not_both}
+use Rattle.wb_aql_grammar.proofs.Local.{not_both}
 use Rattle.wb_aql_syntax.proofs.CanonicalSpells.{left_most, right_most}
 
 -- how many tokens

@@ -3,18 +3,18 @@ use Rattle.std.proofs.Common.{◌≡◌, ℕ, List, [], ◌∷◌, ◌++◌, Boo
 use Rattle.std.specs.Prelude.{⊤}
 use Rattle.std.specs.List.{list_all}
 use Rattle.std.proofs.lemmas.Bool.{and_parts, and_from}
-use Rattle.wb_aql_syntax.specs.Tree.{Tree, Trees, Arguments, no_trees, trees, no_arguments, lambda, type_named, expression, with_tree, with_lambda, with_type, with_expression}
-use Rattle.wb_aql_syntax.specs.Tree as t
-use Rattle.wb_aql_syntax.specs.Grammar.{Phrase, Unary, Post, ImpliesMore, OrMore, XorMore, AndMore, CmpMore, SumMore, TermMore, PostMore, Named, Featured, CallArguments, Argument, ArgumentMore, Element, ElementMore, Rest, done, sign, name, phrase, opening, last, Line, Reads, reads_done, reads_sign, reads_name, reads_phrase, reads_opening, Spells}
-use Rattle.wb_aql_syntax.specs.Grammar as g
-use Rattle.wb_aql_syntax.specs.Lexes.{is_within}
+use Rattle.wb_aql_grammar.specs.Tree.{Tree, Trees, Arguments, no_trees, trees, no_arguments, lambda, type_named, expression, with_tree, with_lambda, with_type, with_expression}
+use Rattle.wb_aql_grammar.specs.Tree as t
+use Rattle.wb_aql_grammar.specs.Grammar.{Phrase, Unary, Post, ImpliesMore, OrMore, XorMore, AndMore, CmpMore, SumMore, TermMore, PostMore, Named, Featured, CallArguments, Argument, ArgumentMore, Element, ElementMore, Rest, done, sign, name, phrase, opening, last, Line, Reads, reads_done, reads_sign, reads_name, reads_phrase, reads_opening, Spells}
+use Rattle.wb_aql_grammar.specs.Grammar as g
+use Rattle.wb_aql_tokens.specs.Lexes.{is_within}
 use Rattle.wb_aql_syntax.specs.Canonical.{Piece, blank, token, mark, apart, prefix, prefix_of, left_of, right_of, sign_of, link_of, comma_if, enclosed, stands, standing, tightness, pieces, element_pieces, argument_pieces, tokens_in}
 use Rattle.wb_aql_syntax.specs.Printed.{is_writable}
-use Rattle.wb_aql_syntax.specs.declared.token.Token.{Token}
-use Rattle.wb_aql_syntax.specs.declared.token.Token.TheVariants.{Name, Integer, Quoted}
-use Rattle.wb_aql_syntax.specs.declared.token.Sign.TheVariants as s
-use Rattle.wb_aql_syntax.specs.declared.expr.Unary.{Unary as UnaryOperator}
-use Rattle.wb_aql_syntax.specs.declared.expr.Unary.TheVariants as u
+use Rattle.wb_aql_tokens.specs.declared.token.Token.{Token}
+use Rattle.wb_aql_tokens.specs.declared.token.Token.TheVariants.{Name, Integer, Quoted}
+use Rattle.wb_aql_tokens.specs.declared.token.Sign.TheVariants as s
+use Rattle.wb_aql_grammar.specs.declared.expr.Unary.{Unary as UnaryOperator}
+use Rattle.wb_aql_grammar.specs.declared.expr.Unary.TheVariants as u
 use Rattle.wb_aql_syntax.specs.declared.tightness.Tightness.{Tightness}
 use Rattle.wb_aql_syntax.specs.declared.tightness.Tightness.TheVariants as at
 

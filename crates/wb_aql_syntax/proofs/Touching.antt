@@ -4,20 +4,20 @@ use Rattle.std.specs.Prelude.{Some, not, ⊤}
 use Rattle.std.specs.Fmt.{decimal}
 use Rattle.std.proofs.lemmas.Fmt.{decimal_is_IsNumeral}
 use Rattle.std.proofs.lemmas.Bool.{cases_eq, ne_eqb, leb-true}
-use Rattle.wb_aql_syntax.specs.Lexes.{word_of, escape_of, Means, means_none, means_raw, means_escaped, Spelling, is_within, largest_integer, Lexes, lexes_end, lexes_blank}
-use Rattle.wb_aql_syntax.specs.Lexer.{first_start}
-use Rattle.wb_aql_syntax.specs.Apart.{lengthens_sign, lengthens, ends_before}
+use Rattle.wb_aql_tokens.specs.Lexes.{word_of, escape_of, Means, means_none, means_raw, means_escaped, Spelling, is_within, largest_integer, Lexes, lexes_end, lexes_blank}
+use Rattle.wb_aql_tokens.specs.Lexer.{first_start}
+use Rattle.wb_aql_tokens.specs.Apart.{lengthens_sign, lengthens, ends_before}
 use Rattle.wb_aql_syntax.specs.Canonical.{Piece, blank, token, tokens_in}
 use Rattle.wb_aql_syntax.specs.Printed.{escaped, bytes_of, bytes_in}
-use Rattle.wb_aql_syntax.specs.declared.characters.Start.{Start}
-use Rattle.wb_aql_syntax.specs.declared.characters.Start.TheVariants as b
-use Rattle.wb_aql_syntax.specs.declared.token.Token.{Token}
-use Rattle.wb_aql_syntax.specs.declared.token.Token.TheVariants.{Sign, Name, Integer, Quoted, Bad}
-use Rattle.wb_aql_syntax.specs.declared.token.Sign.{Sign as SignName}
-use Rattle.wb_aql_syntax.specs.declared.token.Sign.TheVariants as s
-use Rattle.wb_aql_syntax.proofs.Local.{not_both}
-use Rattle.wb_aql_syntax.proofs.Apart.{spelled_first}
-use Rattle.wb_aql_syntax.proofs.Spellings.{spelled_start, some_start, nothing}
+use Rattle.wb_aql_tokens.specs.declared.characters.Start.{Start}
+use Rattle.wb_aql_tokens.specs.declared.characters.Start.TheVariants as b
+use Rattle.wb_aql_tokens.specs.declared.token.Token.{Token}
+use Rattle.wb_aql_tokens.specs.declared.token.Token.TheVariants.{Sign, Name, Integer, Quoted, Bad}
+use Rattle.wb_aql_tokens.specs.declared.token.Sign.{Sign as SignName}
+use Rattle.wb_aql_tokens.specs.declared.token.Sign.TheVariants as s
+use Rattle.wb_aql_grammar.proofs.Local.{not_both}
+use Rattle.wb_aql_tokens.proofs.Apart.{spelled_first}
+use Rattle.wb_aql_tokens.proofs.Spellings.{spelled_start, some_start, nothing}
 use Rattle.wb_aql_syntax.proofs.Escapes.{escaped_plain}
 
 -- ---- the bytes of a token spell it

@@ -1,21 +1,21 @@
 -- The canonical spelling of a tree: its tokens with the blanks between them, and the bounds that it needs.
 use Rattle.std.specs.Prelude.{ℕ, suc, max, nat_le, Bool, true, false, List, [], ◌∷◌, ◌++◌}
-use Rattle.wb_aql_syntax.specs.Tree.{Tree, Trees, Arguments}
-use Rattle.wb_aql_syntax.specs.Tree as t
-use Rattle.wb_aql_syntax.specs.declared.token.Token.{Token}
-use Rattle.wb_aql_syntax.specs.declared.token.Token.TheVariants.{Sign, Name, Integer, Quoted}
-use Rattle.wb_aql_syntax.specs.declared.token.Sign.{Sign as SignName}
-use Rattle.wb_aql_syntax.specs.declared.token.Sign.TheVariants as s
-use Rattle.wb_aql_syntax.specs.declared.expr.Constant.{Constant}
-use Rattle.wb_aql_syntax.specs.declared.expr.Constant.TheVariants as c
-use Rattle.wb_aql_syntax.specs.declared.expr.CollectionKind.{CollectionKind}
-use Rattle.wb_aql_syntax.specs.declared.expr.CollectionKind.TheVariants as k
-use Rattle.wb_aql_syntax.specs.declared.expr.Unary.{Unary as UnaryOperator}
-use Rattle.wb_aql_syntax.specs.declared.expr.Unary.TheVariants as u
-use Rattle.wb_aql_syntax.specs.declared.expr.Binary.{Binary as BinaryOperator}
-use Rattle.wb_aql_syntax.specs.declared.expr.Binary.TheVariants as b
-use Rattle.wb_aql_syntax.specs.declared.expr.CallKind.{CallKind}
-use Rattle.wb_aql_syntax.specs.declared.expr.CallKind.TheVariants as d
+use Rattle.wb_aql_grammar.specs.Tree.{Tree, Trees, Arguments}
+use Rattle.wb_aql_grammar.specs.Tree as t
+use Rattle.wb_aql_tokens.specs.declared.token.Token.{Token}
+use Rattle.wb_aql_tokens.specs.declared.token.Token.TheVariants.{Sign, Name, Integer, Quoted}
+use Rattle.wb_aql_tokens.specs.declared.token.Sign.{Sign as SignName}
+use Rattle.wb_aql_tokens.specs.declared.token.Sign.TheVariants as s
+use Rattle.wb_aql_grammar.specs.declared.expr.Constant.{Constant}
+use Rattle.wb_aql_grammar.specs.declared.expr.Constant.TheVariants as c
+use Rattle.wb_aql_grammar.specs.declared.expr.CollectionKind.{CollectionKind}
+use Rattle.wb_aql_grammar.specs.declared.expr.CollectionKind.TheVariants as k
+use Rattle.wb_aql_grammar.specs.declared.expr.Unary.{Unary as UnaryOperator}
+use Rattle.wb_aql_grammar.specs.declared.expr.Unary.TheVariants as u
+use Rattle.wb_aql_grammar.specs.declared.expr.Binary.{Binary as BinaryOperator}
+use Rattle.wb_aql_grammar.specs.declared.expr.Binary.TheVariants as b
+use Rattle.wb_aql_grammar.specs.declared.expr.CallKind.{CallKind}
+use Rattle.wb_aql_grammar.specs.declared.expr.CallKind.TheVariants as d
 use Rattle.wb_aql_syntax.specs.declared.tightness.Tightness.{Tightness}
 use Rattle.wb_aql_syntax.specs.declared.tightness.Tightness.TheVariants as at
 

@@ -1,14 +1,2 @@
-pub mod Answers
-pub mod Codes
-pub mod Expressions
-pub mod Reading
-pub mod Places
-pub mod Runs
-pub mod Grammar
-pub mod Tree
-pub mod View
-pub mod Lexes
-pub mod Lexer
-pub mod Apart
 pub mod Canonical
 pub mod Printed

@@ -4,11 +4,11 @@ use Rattle.std.specs.declared.alloc.Global.{Global}
 use Rattle.std.specs.Fmt.{decimal}
 use Rattle.std.specs.List.{flat_map, list_all}
 use Rattle.std.specs.Str.{byte}
-use Rattle.wb_aql_syntax.specs.Tree.{Tree}
-use Rattle.wb_aql_syntax.specs.Lexes.{word_of, escapes, is_within}
+use Rattle.wb_aql_grammar.specs.Tree.{Tree}
+use Rattle.wb_aql_tokens.specs.Lexes.{word_of, escapes, is_within}
 use Rattle.wb_aql_syntax.specs.Canonical.{Piece, blank, token, pieces, canon}
-use Rattle.wb_aql_syntax.specs.declared.token.Token.{Token}
-use Rattle.wb_aql_syntax.specs.declared.token.Token.TheVariants.{Sign, Name, Integer, Quoted, Bad}
+use Rattle.wb_aql_tokens.specs.declared.token.Token.{Token}
+use Rattle.wb_aql_tokens.specs.declared.token.Token.TheVariants.{Sign, Name, Integer, Quoted, Bad}
 
 -- a byte of a text: behind a `\` by its code where there is an escape for it, else itself
 abbrev pub escaped_by : Option (ℕ × ℕ) → ℕ → List ℕ

@@ -1,19 +1,19 @@
 ghost use Rattle.std.specs.Prelude.{◌≡◌, ◌∷◌, [], false, IfOk, OnOk};
-ghost use Rattle.wb_aql_syntax.specs.View.{tree_of, trees_in, arguments_in};
-ghost use Rattle.wb_aql_syntax.specs.Tree as t;
+ghost use Rattle.wb_aql_grammar.specs.View.{tree_of, trees_in, arguments_in};
+ghost use Rattle.wb_aql_grammar.specs.Tree as t;
 ghost use Rattle.wb_aql_syntax.specs.Canonical.{pieces, standing, enclosed, element_pieces, argument_pieces};
 ghost use Rattle.wb_aql_syntax.specs.Printed.{printed, Wrote};
 
-use crate::expr::{Argument, Binary, CallKind, CollectionKind, Node};
 use crate::sign_words::{link_of, sign_of, word_of_constant, word_of_kind};
 use crate::tightness::{Tightness, left_of, prefix_of, right_of, stands, tightness_of};
-use crate::token::Sign;
 use crate::writer::{
     write_apart, write_blank, write_comma, write_integer, write_name, write_prefix, write_quoted,
     write_sign,
 };
 use sqlite_items::{Boxed, Items};
 use std::alloc::{AllocError, Global};
+use wb_aql_grammar::{Argument, Binary, CallKind, CollectionKind, Node};
+use wb_aql_tokens::Sign;
 use wb_base::Text;
 
 /// The canonical spelling of a tree.

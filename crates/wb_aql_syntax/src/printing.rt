@@ -1,10 +1,10 @@
 ghost use Rattle.std.specs.Prelude.{◌≡◌, IfOk};
-ghost use Rattle.wb_aql_syntax.specs.Expressions.{SpellsText};
+ghost use Rattle.wb_aql_grammar.specs.Expressions.{SpellsText};
 ghost use Rattle.wb_aql_syntax.specs.Printed.{printed};
 
-use crate::expression::Expr;
 use crate::printer::print_tree;
 use std::alloc::{AllocError, Global};
+use wb_aql_grammar::Expr;
 use wb_base::Text;
 
 /// The canonical spelling of an expression, which `parse` reads as the expression again.
@@ -19,9 +19,9 @@ pub fn print(alloc: Global, e: &Expr) -> Result<Text, AllocError>
 #[cfg(test)]
 mod tests {
     use super::*;
-    use crate::parsing::parse;
     use std::process::Abort;
     use std::test::Fail;
+    use wb_aql_grammar::parse;
 
     /// The canonical spelling of what the text spells.
     fn canonical(alloc: Global, text: &str) -> Result<Option<Text>, AllocError> {

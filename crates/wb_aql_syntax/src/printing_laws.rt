@@ -1,11 +1,11 @@
 ghost use Rattle.std.specs.Prelude.{◌≡◌, ◌≤◌, ℕ, true, List, length};
-ghost use Rattle.wb_aql_syntax.specs.Tree.{Tree};
-ghost use Rattle.wb_aql_syntax.specs.Grammar.{Spells};
+ghost use Rattle.wb_aql_grammar.specs.Tree.{Tree};
+ghost use Rattle.wb_aql_grammar.specs.Grammar.{Spells};
 ghost use Rattle.wb_aql_syntax.specs.Canonical.{canon, openings_of, lambdas_of};
-ghost use Rattle.wb_aql_syntax.specs.Lexes.{Lexes};
-ghost use Rattle.wb_aql_syntax.specs.Expressions.{SpellsText, IsExpression};
+ghost use Rattle.wb_aql_tokens.specs.Lexes.{Lexes};
+ghost use Rattle.wb_aql_grammar.specs.Expressions.{SpellsText, IsExpression};
 ghost use Rattle.wb_aql_syntax.specs.Printed.{printed, is_writable};
-ghost use Rattle.wb_aql_syntax.specs.declared.token.Token.{Token};
+ghost use Rattle.wb_aql_tokens.specs.declared.token.Token.{Token};
 
 /// The canonical tokens spell the tree within its least bounds.
 pub fn canonical_spells()

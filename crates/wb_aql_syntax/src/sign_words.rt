@@ -1,12 +1,12 @@
 ghost use Rattle.std.specs.Prelude.{◌≡◌};
-ghost use Rattle.wb_aql_syntax.specs.Lexes.{word_of};
+ghost use Rattle.wb_aql_tokens.specs.Lexes.{word_of};
 ghost use Rattle.wb_aql_syntax.specs.Canonical.{sign_of, word_of_constant, word_of_kind, link_of};
 
-use crate::expr::{Binary, CallKind, CollectionKind, Constant};
-use crate::token::Sign;
+use wb_aql_grammar::{Binary, CallKind, CollectionKind, Constant};
+use wb_aql_tokens::Sign;
 
 /// The text of a sign or a reserved word.
-#[tactic(auto, unfolding(crate::specs::Lexes::word_of))]
+#[tactic(auto, unfolding(wb_aql_tokens::specs::Lexes::word_of))]
 pub fn word(sign: Sign) -> &'static str
     ensures { result.now ≡ word_of sign }
 {

@@ -1,8 +1,8 @@
 ghost use Rattle.std.specs.Prelude.{◌≡◌};
-ghost use Rattle.wb_aql_syntax.specs.View.{tree_of};
+ghost use Rattle.wb_aql_grammar.specs.View.{tree_of};
 ghost use Rattle.wb_aql_syntax.specs.Canonical.{rank, stands, tightness, prefix_of, whole_of, left_of, right_of};
 
-use crate::expr::{Binary, Node, Unary};
+use wb_aql_grammar::{Binary, Node, Unary};
 
 /// The phrases of the grammar that an operand can be, from the loosest to the tightest: each is also
 /// one of those before it.
@@ -52,7 +52,7 @@ pub fn stands(wanted: Tightness, found: Tightness) -> bool
 }
 
 /// The tightest phrase that the expression is without parentheses round it.
-#[tactic(auto, using(crate::proofs::Trees::trees))]
+#[tactic(auto, using(wb_aql_grammar::proofs::Trees::trees))]
 pub fn tightness_of(e: &Node) -> Tightness
     ensures { result ≡ tightness (tree_of e.now) }
 {

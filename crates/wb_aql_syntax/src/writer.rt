@@ -3,12 +3,12 @@ ghost use Rattle.std.specs.Char.{encode_utf8};
 ghost use Rattle.std.specs.List.{flat_map};
 ghost use Rattle.wb_aql_syntax.specs.Canonical.{apart, comma_if, prefix, mark, blank, token as token_piece};
 ghost use Rattle.wb_aql_syntax.specs.Printed.{Wrote, escaped};
-ghost use Rattle.wb_aql_syntax.specs.declared.token.Token.TheVariants.{Name as name_token, Integer as integer_token, Quoted as quoted_token};
+ghost use Rattle.wb_aql_tokens.specs.declared.token.Token.TheVariants.{Name as name_token, Integer as integer_token, Quoted as quoted_token};
 
-use crate::expr::Unary;
 use crate::sign_words::word;
-use crate::token::Sign;
 use std::alloc::AllocError;
+use wb_aql_grammar::Unary;
+use wb_aql_tokens::Sign;
 use wb_base::Text;
 
 /// Writes a sign or a word.
@@ -38,7 +38,7 @@ pub fn write_apart(out: &mut String, sign: Sign) -> Result<(), AllocError>
 }
 
 /// Writes what stands before an element: a comma, if others stand before it.
-#[tactic(auto, unfolding(crate::specs::Printed::bytes_in, crate::specs::Lexes::word_of))]
+#[tactic(auto, unfolding(crate::specs::Printed::bytes_in, wb_aql_tokens::specs::Lexes::word_of))]
 pub fn write_comma(out: &mut String, later: bool) -> Result<(), AllocError>
     ensures { OnOk result (Wrote out.old (comma_if later) out.new) }
 {
@@ -49,7 +49,7 @@ pub fn write_comma(out: &mut String, later: bool) -> Result<(), AllocError>
 }
 
 /// Writes a prefix operator.
-#[tactic(auto, unfolding(crate::specs::Printed::bytes_in, crate::specs::Lexes::word_of))]
+#[tactic(auto, unfolding(crate::specs::Printed::bytes_in, wb_aql_tokens::specs::Lexes::word_of))]
 pub fn write_prefix(out: &mut String, operator: Unary) -> Result<(), AllocError>
     ensures { OnOk result (Wrote out.old (prefix operator) out.new) }
 {

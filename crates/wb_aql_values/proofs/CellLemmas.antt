@@ -1,8 +1,8 @@
 -- Two cells are equal exactly where they are the same.
 use Rattle.std.proofs.Common.{◌≡◌, rules}
-use Rattle.wb_model.specs.declared.scalars.Cell.{Cell}
-use Rattle.wb_model.specs.declared.scalars.Cell.TheVariants.{Kind, Slot, Holder, Tree, Inverse, Extent, Roots}
-use Rattle.wb_model.specs.contracts.scalars.CellPartialEq.TheImpl.{eq-value}
+use Rattle.wb_store.specs.declared.scalars.Cell.{Cell}
+use Rattle.wb_store.specs.declared.scalars.Cell.TheVariants.{Kind, Slot, Holder, Tree, Inverse, Extent, Roots}
+use Rattle.wb_store.specs.contracts.scalars.CellPartialEq.TheImpl.{eq-value}
 use Rattle.wb_aql_values.specs.Cells.{same_cell}
 
 pub same_cells : (x y : Cell) → eq-value.it x y ≡ same_cell x y

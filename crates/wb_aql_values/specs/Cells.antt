@@ -1,7 +1,7 @@
 -- Two cells are the same where they are of one sort and of the same object, feature or class.
 use Rattle.std.specs.Prelude.{Bool, true, false, nat_eq, ◌&&◌}
-use Rattle.wb_model.specs.declared.scalars.Cell.{Cell}
-use Rattle.wb_model.specs.declared.scalars.Cell.TheVariants.{Kind, Slot, Holder, Tree, Inverse, Extent, Roots}
+use Rattle.wb_store.specs.declared.scalars.Cell.{Cell}
+use Rattle.wb_store.specs.declared.scalars.Cell.TheVariants.{Kind, Slot, Holder, Tree, Inverse, Extent, Roots}
 
 abbrev pub same_cell : Cell → Cell → Bool
 same_cell (Kind o) (Kind p) = nat_eq o p

@@ -1,11 +1,11 @@
 -- Readings: what is looked at in a model, cell by cell, and what it gives in the end. No model stands in a reading;
 -- its value and its reads are the two results of one run over a model's cells.
 use Rattle.std.specs.Prelude.{ℕ, List, [], ◌∷◌, Option, None, Some, Result, Ok, Err}
-use Rattle.wb_model.specs.declared.scalars.Scalar.{Scalar}
-use Rattle.wb_model.specs.declared.scalars.Cell.{Cell}
-use Rattle.wb_model.specs.declared.scalars.Cell.TheVariants.{Kind, Slot, Holder, Tree, Inverse, Extent, Roots}
-use Rattle.wb_model.specs.Contents.{Contents, kind, slot}
-use Rattle.wb_model.specs.Cells.{holder, tree, inverse, extent}
+use Rattle.wb_store.specs.declared.scalars.Scalar.{Scalar}
+use Rattle.wb_store.specs.declared.scalars.Cell.{Cell}
+use Rattle.wb_store.specs.declared.scalars.Cell.TheVariants.{Kind, Slot, Holder, Tree, Inverse, Extent, Roots}
+use Rattle.wb_store.specs.Contents.{Contents, kind, slot}
+use Rattle.wb_store.specs.Cells.{holder, tree, inverse, extent}
 use Rattle.wb_aql_values.specs.declared.faults.Fault.{Fault}
 use Rattle.wb_aql_values.specs.declared.faults.Fault.TheVariants.{DeadObject}
 use Rattle.wb_aql_values.specs.declared.values.Sort.{Sort}

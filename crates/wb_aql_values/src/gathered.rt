@@ -27,7 +27,7 @@ enum Members {
 
 impl Model for Gathered {
     ghost use Rattle.std.specs.Prelude.{List};
-    ghost use Rattle.wb_model.specs.declared.scalars.Scalar.{Scalar};
+    ghost use Rattle.wb_store.specs.declared.scalars.Scalar.{Scalar};
     ghost use Rattle.wb_aql_values.specs.declared.values.Sort.{Sort};
 
     ghost Value = { Sort × List Scalar };

@@ -1,7 +1,7 @@
 ghost use Rattle.std.specs.Prelude.{◌≡◌, true, OnOk};
 ghost use Rattle.std.specs.List.{list_all};
 ghost use Rattle.wb_metamodel.specs.Metamodel.{Metamodel};
-ghost use Rattle.wb_model.specs.declared.scalars.Scalar.{Scalar};
+ghost use Rattle.wb_store.specs.declared.scalars.Scalar.{Scalar};
 ghost use Rattle.wb_aql_values.specs.declared.values.Value.{Value};
 ghost use Rattle.wb_aql_values.specs.Bounds.{IsBounded, is_bounded};
 ghost use Rattle.wb_aql_values.specs.Readings.{Reading, contents, gather, lifted, of_each};

@@ -15,7 +15,7 @@ pub struct Reads {
 
 impl Model for Reads {
     ghost use Rattle.std.specs.Prelude.{List};
-    ghost use Rattle.wb_model.specs.declared.scalars.Cell.{Cell};
+    ghost use Rattle.wb_store.specs.declared.scalars.Cell.{Cell};
 
     ghost Value = { List Cell };
 

@@ -8,12 +8,12 @@ use Rattle.std.proofs.lemmas.Option.{same_Some, slice_get_within, slice_get-map,
 use Rattle.std.specs.Cmp.Lexicographic.{bytes_decides, nat_list_eq_equiv}
 use Rattle.std.specs.List.{list_any, find, slice_get, AllZip}
 use Rattle.std.specs.Option.{option_map, option_map_or, option_and_then, option_or}
-use Rattle.wb_metamodel.specs.declared.features.Feature.{Feature}
+use Rattle.wb_ecore.specs.declared.features.Feature.{Feature}
 use Rattle.wb_metamodel.specs.Metamodel.{Metamodel, same_name, names_feature, numbers, features_of, feature_at, feature_named}
 use Rattle.wb_metamodel.specs.Tables.{features_table, feature_place, placed, is_other, HasRow, IsByName}
 use Rattle.wb_metamodel.specs.Checks.{is_name_of, clashes, has_clash}
-use Rattle.wb_metamodel.proofs.Positions.{position-Some, position-None}
-use Rattle.wb_metamodel.proofs.Zips.{zip-length, zip-at}
+use Rattle.wb_ecore.proofs.Positions.{position-Some, position-None}
+use Rattle.wb_ecore.proofs.Zips.{zip-length, zip-at}
 use Rattle.wb_metamodel.proofs.Warshall.{length-map}
 use Rattle.wb_metamodel.proofs.TableLemmas.{entry-cell}
 use Rattle.wb_metamodel.proofs.Distinct.{number-at}

@@ -8,9 +8,9 @@ use Rattle.std.proofs.lemmas.List.Folds.{list_any_at}
 use Rattle.std.specs.List.{list_any, find}
 use Rattle.std.specs.Option.{option_map_or}
 use Rattle.wb_json.specs.Place.{Place}
-use Rattle.wb_metamodel.specs.declared.features.Feature.{Feature}
-use Rattle.wb_metamodel.specs.declared.features.Kind.{Kind}
-use Rattle.wb_metamodel.specs.declared.features.Kind.TheVariants.{Int, Bool as BoolKind, Text, Enum, Reference}
+use Rattle.wb_ecore.specs.declared.features.Feature.{Feature}
+use Rattle.wb_ecore.specs.declared.features.Kind.{Kind}
+use Rattle.wb_ecore.specs.declared.features.Kind.TheVariants.{Int, Bool as BoolKind, Text, Enum, Reference}
 use Rattle.wb_metamodel.specs.Metamodel.{Metamodel, same_name, names_feature, numbers, is_below, features_of, feature_at, feature_named, literal_total}
 use Rattle.wb_metamodel.specs.WellFormed.{AreOpposite}
 use Rattle.wb_metamodel.specs.Checks.{wrong_class, no_cycle, is_name_of, clashes, has_clash, no_clash, refers_to, unfit, is_mismatched, has_mismatch, wrong_feature, opposites_match, is_small, few}

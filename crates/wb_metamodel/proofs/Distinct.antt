@@ -8,16 +8,16 @@ use Rattle.std.proofs.lemmas.List.Folds.{list_any-append}
 use Rattle.std.specs.List.{list_any, enumerate_from, find, slice_get, position, range_with_len}
 use Rattle.std.specs.Option.{option_map, option_map_or, option_and_then}
 use Rattle.wb_json.specs.Place.{Place, within, at_member, at_index}
-use Rattle.wb_metamodel.specs.declared.classes.Class.{Class}
-use Rattle.wb_metamodel.specs.declared.classes.Enumeration.{Enumeration}
-use Rattle.wb_metamodel.specs.declared.resolving.ResolvedClass.{ResolvedClass}
-use Rattle.wb_metamodel.specs.declared.document.Document.{Document}
-use Rattle.wb_metamodel.specs.declared.document.EnumPart.{EnumPart}
-use Rattle.wb_metamodel.specs.declared.document.ClassPart.{ClassPart}
+use Rattle.wb_ecore.specs.declared.classes.Class.{Class}
+use Rattle.wb_ecore.specs.declared.classes.Enumeration.{Enumeration}
+use Rattle.wb_ecore.specs.declared.resolving.ResolvedClass.{ResolvedClass}
+use Rattle.wb_ecore.specs.declared.document.Document.{Document}
+use Rattle.wb_ecore.specs.declared.document.EnumPart.{EnumPart}
+use Rattle.wb_ecore.specs.declared.document.ClassPart.{ClassPart}
 use Rattle.wb_metamodel.specs.Metamodel.{same_name, numbers, class_named, enum_named, literal_named, class_at, enum_at}
-use Rattle.wb_metamodel.specs.Resolving.{walked, class_resolved, enumeration_of, content_of}
-use Rattle.wb_metamodel.specs.Checks.{◌>>=◌, each_from, none_is, fresh, repeats, unrepeated, reserved, enum_names, class_names, check_enum_names, check_class_names}
-use Rattle.wb_metamodel.proofs.Positions.{position-first}
+use Rattle.wb_ecore.specs.Resolving.{walked, class_resolved, enumeration_of, content_of}
+use Rattle.wb_ecore.specs.Repeats.{◌>>=◌, each_from, none_is, fresh, repeats, unrepeated, reserved, enum_names, class_names, check_enum_names, check_class_names}
+use Rattle.wb_ecore.proofs.Positions.{position-first}
 use Rattle.wb_metamodel.proofs.Resolutions.{class-of, mapped}
 
 pub then_ok : {A B E : Type 0} (r : Result A E) (next : A → Result B E) (v : B) → (r >>= next) ≡ Ok v → (a : A) × (r ≡ Ok a) × (next a ≡ Ok v)

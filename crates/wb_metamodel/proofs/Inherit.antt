@@ -8,7 +8,7 @@ use Rattle.std.proofs.lemmas.List.FromFn.{fill_by_all}
 use Rattle.std.specs.Cmp.{nat_eq_equiv}
 use Rattle.std.specs.List.{list_any, find, flat_map, filter, range_with_len, count_by, slice_get}
 use Rattle.std.specs.Option.{option_map_or}
-use Rattle.wb_metamodel.specs.declared.features.Feature.{Feature}
+use Rattle.wb_ecore.specs.declared.features.Feature.{Feature}
 use Rattle.wb_metamodel.specs.Metamodel.{Metamodel, numbers, supertypes_of, is_supertype, is_below, first_places, own_features, features_within, features_of}
 use Rattle.wb_metamodel.specs.Tables.{below_table, features_table, rank_of}
 use Rattle.wb_metamodel.specs.Inherited.{IsHierarchy, FilledTo, all_features}

@@ -2,11 +2,11 @@
 use Rattle.std.proofs.Common.{◌≡◌, ℕ, ◌<◌, List, length, Some, get_or}
 use Rattle.std.specs.Prelude.{All}
 use Rattle.std.proofs.lemmas.Option.{slice_get_within}
-use Rattle.wb_metamodel.specs.declared.classes.Class.{Class}
-use Rattle.wb_metamodel.specs.declared.classes.Enumeration.{Enumeration}
+use Rattle.wb_ecore.specs.declared.classes.Class.{Class}
+use Rattle.wb_ecore.specs.declared.classes.Enumeration.{Enumeration}
 use Rattle.wb_metamodel.specs.Metamodel.{Metamodel, same_name, class_named, enum_named, feature_named, features_of}
 use Rattle.wb_metamodel.specs.Checks.{is_name_of}
-use Rattle.wb_metamodel.proofs.Positions.{position-Some}
+use Rattle.wb_ecore.proofs.Positions.{position-Some}
 use Rattle.wb_metamodel.proofs.Inherit.{find-member, of-member, member-at}
 
 pub class-known : (mm : Metamodel) (name : List ℕ) (c : ℕ) → class_named mm name ≡ Some c → c < length mm.classes

@@ -4,15 +4,10 @@ pub mod Checked
 pub mod Distinct
 pub mod Inherit
 pub mod Known
-pub mod NameLemmas
-pub mod Numbered
 pub mod Paths
-pub mod Positions
 pub mod Ranks
 pub mod ReadNames
 pub mod Resolutions
 pub mod TableLemmas
-pub mod Taken
 pub mod Warshall
 pub mod Wholes
-pub mod Zips

@@ -4,7 +4,7 @@ use Rattle.std.proofs.lemmas.Bool.{false≢true, cases_eq, cases_lt, or_cases, o
 use Rattle.std.proofs.lemmas.Option.{slice_get_past}
 use Rattle.std.specs.Option.{option_map_or}
 use Rattle.std.specs.List.{list_any, range_with_len, slice_get}
-use Rattle.wb_metamodel.specs.declared.classes.Class.{Class}
+use Rattle.wb_ecore.specs.declared.classes.Class.{Class}
 use Rattle.wb_metamodel.specs.Metamodel.{Metamodel, numbers, is_supertype, Conforms, leads_through, is_below, conforms}
 use Rattle.wb_metamodel.specs.Metamodel.Conforms.{itself, upwards}
 

@@ -7,19 +7,19 @@ use Rattle.serde_json.specs.Data.{Data}
 use Rattle.serde_json.specs.Find.{get, as_array}
 use Rattle.wb_json.specs.Place.{Place, at_member}
 use Rattle.wb_json.specs.Form.{or_wrong, item_list, text_of, is_name, name_of, bool_of, list_of, listed, needed_part, needed, optional, list_part, list_or_empty, has}
-use Rattle.wb_metamodel.specs.declared.classes.Class.{Class}
-use Rattle.wb_metamodel.specs.declared.classes.Enumeration.{Enumeration}
-use Rattle.wb_metamodel.specs.declared.features.Feature.{Feature}
-use Rattle.wb_metamodel.specs.declared.resolving.ResolvedClass.{ResolvedClass}
-use Rattle.wb_metamodel.specs.declared.document.Document.{Document}
-use Rattle.wb_metamodel.specs.declared.document.EnumPart.{EnumPart}
-use Rattle.wb_metamodel.specs.declared.document.ClassPart.{ClassPart}
-use Rattle.wb_metamodel.specs.declared.document.FeaturePart.{FeaturePart}
-use Rattle.wb_metamodel.specs.declared.document.Target.{Target}
-use Rattle.wb_metamodel.specs.declared.document.Target.TheVariants.{Values, Objects}
-use Rattle.wb_metamodel.specs.Document.{attribute_of, reference_of, feature_of, enum_of, class_of, document_of, HasNames}
+use Rattle.wb_ecore.specs.declared.classes.Class.{Class}
+use Rattle.wb_ecore.specs.declared.classes.Enumeration.{Enumeration}
+use Rattle.wb_ecore.specs.declared.features.Feature.{Feature}
+use Rattle.wb_ecore.specs.declared.resolving.ResolvedClass.{ResolvedClass}
+use Rattle.wb_ecore.specs.declared.document.Document.{Document}
+use Rattle.wb_ecore.specs.declared.document.EnumPart.{EnumPart}
+use Rattle.wb_ecore.specs.declared.document.ClassPart.{ClassPart}
+use Rattle.wb_ecore.specs.declared.document.FeaturePart.{FeaturePart}
+use Rattle.wb_ecore.specs.declared.document.Target.{Target}
+use Rattle.wb_ecore.specs.declared.document.Target.TheVariants.{Values, Objects}
+use Rattle.wb_ecore.specs.Document.{attribute_of, reference_of, feature_of, enum_of, class_of, document_of, HasNames}
 use Rattle.wb_metamodel.specs.Metamodel.{class_at, feature_at, enum_at}
-use Rattle.wb_metamodel.specs.Resolving.{class_number, kind_named, opposite_of, feature_resolved, walked, class_resolved, enumeration_of, content_of}
+use Rattle.wb_ecore.specs.Resolving.{class_number, kind_named, opposite_of, feature_resolved, walked, class_resolved, enumeration_of, content_of}
 use Rattle.wb_metamodel.proofs.Resolutions.{then_ok, within_ok, same_ok, in_turn-gave, mapped, class-of, flat_map-at}
 
 -- ---- what was read

@@ -6,21 +6,22 @@ use Rattle.std.specs.List.{list_any, flat_map, enumerate_from, slice_get}
 use Rattle.std.specs.Option.{option_map, option_map_or}
 use Rattle.wb_json.specs.Place.{Place, within, at_member, at_index}
 use Rattle.wb_json.specs.Form.{◌>>=◌, in_turn, or_wrong}
-use Rattle.wb_metamodel.specs.declared.classes.Class.{Class}
-use Rattle.wb_metamodel.specs.declared.features.Feature.{Feature}
-use Rattle.wb_metamodel.specs.declared.features.Kind.{Kind}
-use Rattle.wb_metamodel.specs.declared.features.Kind.TheVariants.{Int, Bool as BoolKind, Text, Enum}
-use Rattle.wb_metamodel.specs.declared.resolving.ResolvedClass.{ResolvedClass}
-use Rattle.wb_metamodel.specs.declared.document.Document.{Document}
-use Rattle.wb_metamodel.specs.declared.document.EnumPart.{EnumPart}
-use Rattle.wb_metamodel.specs.declared.document.ClassPart.{ClassPart}
-use Rattle.wb_metamodel.specs.declared.document.FeaturePart.{FeaturePart}
-use Rattle.wb_metamodel.specs.declared.document.Target.{Target}
-use Rattle.wb_metamodel.specs.declared.document.Target.TheVariants.{Values, Objects}
+use Rattle.wb_ecore.specs.declared.classes.Class.{Class}
+use Rattle.wb_ecore.specs.declared.features.Feature.{Feature}
+use Rattle.wb_ecore.specs.declared.features.Kind.{Kind}
+use Rattle.wb_ecore.specs.declared.features.Kind.TheVariants.{Int, Bool as BoolKind, Text, Enum}
+use Rattle.wb_ecore.specs.declared.resolving.ResolvedClass.{ResolvedClass}
+use Rattle.wb_ecore.specs.declared.document.Document.{Document}
+use Rattle.wb_ecore.specs.declared.document.EnumPart.{EnumPart}
+use Rattle.wb_ecore.specs.declared.document.ClassPart.{ClassPart}
+use Rattle.wb_ecore.specs.declared.document.FeaturePart.{FeaturePart}
+use Rattle.wb_ecore.specs.declared.document.Target.{Target}
+use Rattle.wb_ecore.specs.declared.document.Target.TheVariants.{Values, Objects}
 use Rattle.wb_metamodel.specs.Metamodel.{Metamodel, same_name, is_supertype, feature_at}
-use Rattle.wb_metamodel.specs.Resolving.{class_number, enum_number, kind_named, opposite_of, feature_resolved, in_place, walked, class_resolved, enumeration_of, content_of, resolved}
+use Rattle.wb_ecore.specs.Resolving.{class_number, enum_number, kind_named, opposite_of, feature_resolved, in_place, walked, class_resolved, enumeration_of, content_of, resolved}
 use Rattle.wb_metamodel.specs.WellFormed.{KindIsKnown, IsReference}
-use Rattle.wb_metamodel.proofs.Positions.{position-Some}
+use Rattle.wb_ecore.proofs.Numbered.{class-number-known}
+use Rattle.wb_ecore.proofs.Positions.{position-Some}
 use Rattle.wb_metamodel.proofs.Warshall.{length-map}
 
 -- a step that went well, and the one after it
@@ -146,11 +147,6 @@ length-enumerate n (x ∷ xs) = ap (λ k. suc k) (length-enumerate (n + 1) xs)
 pub classes-length : (document : Document) (parts : List ResolvedClass) → walked (class_resolved document) (enumerate_from 0 document.classes) ≡ Ok parts → length (content_of document parts).classes ≡ length document.classes
 classes-length document parts walk =
     length-map (λ (c : ResolvedClass). c.class) parts ∙ in_turn-length (class_resolved document) 0 (enumerate_from 0 document.classes) parts walk ∙ length-enumerate 0 document.classes
-
-pub class-number-known : (document : Document) (name : List ℕ) (c : ℕ) → class_number document name ≡ Some c → c < length document.classes
-class-number-known document name c h =
-    let found = position-Some (λ (part : ClassPart). same_name part.name name) document.classes c h in
-    slice_get_within document.classes c found.0 found.1
 
 enum-number-known : (document : Document) (name : List ℕ) (e : ℕ) → enum_number document name ≡ Some e → e < length document.enums
 enum-number-known document name e h =

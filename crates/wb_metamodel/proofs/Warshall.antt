@@ -5,7 +5,7 @@ use Rattle.std.proofs.lemmas.List.FromFn.{length-map-range_with_len, get_or-map-
 use Rattle.std.proofs.lemmas.Option.{slice_get-map, get_or_from_slice_get}
 use Rattle.std.specs.List.{list_any, range_with_len, slice_get}
 use Rattle.std.specs.Option.{option_map, option_map_or}
-use Rattle.wb_metamodel.specs.declared.classes.Class.{Class}
+use Rattle.wb_ecore.specs.declared.classes.Class.{Class}
 use Rattle.wb_metamodel.specs.Metamodel.{Metamodel, numbers, is_supertype, leads_through, is_below}
 use Rattle.wb_metamodel.specs.Tables.{table_of, direct_row, or_row, widened, below_table}
 

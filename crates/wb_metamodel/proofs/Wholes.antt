@@ -4,18 +4,19 @@ use Rattle.std.specs.Prelude.{codes, ⊤}
 use Rattle.wb_json.specs.Form.{or_wrong}
 use Rattle.wb_json.specs.Json.{json_of}
 use Rattle.wb_json.specs.Place.{Place, at_member}
-use Rattle.wb_metamodel.specs.declared.document.Document.{Document}
-use Rattle.wb_metamodel.specs.declared.resolving.ResolvedClass.{ResolvedClass}
-use Rattle.wb_metamodel.specs.Document.{document_of, HasNames}
+use Rattle.wb_ecore.specs.declared.document.Document.{Document}
+use Rattle.wb_ecore.specs.declared.resolving.ResolvedClass.{ResolvedClass}
+use Rattle.wb_ecore.specs.Document.{document_of, HasNames}
 use Rattle.wb_metamodel.specs.Metamodel.{Metamodel, is_supertype}
 use Rattle.std.specs.List.{enumerate_from}
-use Rattle.wb_metamodel.specs.Resolving.{walked, class_resolved, content_of, resolved}
+use Rattle.wb_ecore.specs.Resolving.{walked, class_resolved, content_of, resolved}
 use Rattle.wb_metamodel.specs.WellFormed.{IsWellFormed}
-use Rattle.wb_metamodel.specs.Checks.{each_from, check_enum_names, check_class_names, ◌>>=◌, unrepeated_names, no_cycle, no_clash, opposites_match, few, coded, read_document, resolve, later, check, Answers}
-use Rattle.wb_metamodel.specs.declared.refusal.MetamodelCode.{MetamodelCode}
-use Rattle.wb_metamodel.specs.declared.refusal.MetamodelCode.TheVariants.{BadJson, BadShape, SupertypeCycle, DuplicateName, UnknownName, OppositeMismatch, TooMany}
-use Rattle.wb_metamodel.specs.declared.refusal.MetamodelRefusal.{MetamodelRefusal}
-use Rattle.wb_metamodel.specs.declared.refusal.MetamodelRefusal.TheVariants.{At, NoMemory}
+use Rattle.wb_ecore.specs.Repeats.{each_from, check_enum_names, check_class_names, ◌>>=◌, unrepeated_names}
+use Rattle.wb_metamodel.specs.Checks.{no_cycle, no_clash, opposites_match, few, coded, read_document, resolve, later, check, Answers}
+use Rattle.wb_ecore.specs.declared.refusal.MetamodelCode.{MetamodelCode}
+use Rattle.wb_ecore.specs.declared.refusal.MetamodelCode.TheVariants.{BadJson, BadShape, SupertypeCycle, DuplicateName, UnknownName, OppositeMismatch, TooMany}
+use Rattle.wb_ecore.specs.declared.refusal.MetamodelRefusal.{MetamodelRefusal}
+use Rattle.wb_ecore.specs.declared.refusal.MetamodelRefusal.TheVariants.{At, NoMemory}
 use Rattle.wb_metamodel.specs.Inherited.{IsHierarchy}
 use Rattle.wb_metamodel.proofs.Resolutions.{resolution, supertypes-known, features-known}
 use Rattle.wb_metamodel.proofs.Distinct.{then_ok, within_ok, classes-named, enumerations-named, literals-named}

@@ -1,10 +1,6 @@
 pub mod Checks
-pub mod Document
-pub mod Index
 pub mod Inherited
 pub mod Inside
 pub mod Metamodel
-pub mod Names
-pub mod Resolving
 pub mod Tables
 pub mod WellFormed

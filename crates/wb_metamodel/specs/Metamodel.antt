@@ -2,23 +2,16 @@
 -- The number of a class, a feature or an enumeration is its place in these lists.
 use Rattle.std.specs.Prelude.{ℕ, Bool, false, ◌||◌, nat_eq, IsTrue, List, [], ◌∷◌, ◌++◌, length, filter, find, slice_get, Option, Some, None, option_and_then, sum_by, zero, suc, not, if◌then◌else◌}
 use Rattle.std.specs.Option.{option_map_or}
-use Rattle.std.specs.List.{list_any, flat_map, position, range_with_len}
-use Rattle.std.specs.Cmp.Lexicographic.{pointwise}
-use Rattle.wb_metamodel.specs.declared.classes.Class.{Class}
-use Rattle.wb_metamodel.specs.declared.content.Content.{Content}
-use Rattle.wb_metamodel.specs.declared.classes.Enumeration.{Enumeration}
-use Rattle.wb_metamodel.specs.declared.features.Feature.{Feature}
+use Rattle.std.specs.List.{list_any, flat_map, position}
+use Rattle.wb_ecore.specs.declared.classes.Class.{Class}
+use Rattle.wb_ecore.specs.declared.content.Content.{Content}
+use Rattle.wb_ecore.specs.declared.classes.Enumeration.{Enumeration}
+use Rattle.wb_ecore.specs.declared.features.Feature.{Feature}
+pub use Rattle.wb_ecore.specs.Naming.{same_name, numbers}
 
 -- a metamodel: the name of its package, its classes, its features and its enumerations
 abbrev pub Metamodel : Type 0
 Metamodel = Content
-
-abbrev pub same_name : List ℕ → List ℕ → Bool
-same_name = pointwise nat_eq
-
--- the numbers below n, ascending
-abbrev pub numbers : ℕ → List ℕ
-numbers n = range_with_len 0 n
 
 -- ---- the hierarchy of classes
 

@@ -2,11 +2,11 @@
 use Rattle.std.specs.Prelude.{◌≡◌, ℕ, ◌<◌, Bool, false, ◌||◌, not, nat_eq, find, unwrap_or, slice_index, if◌then◌else◌, count_by, List, [], ◌∷◌, length, map, slice_index_or, Option, Some, None, option_and_then, slice_get, position}
 use Rattle.std.specs.List.{list_any, AllZip}
 use Rattle.wb_metamodel.specs.Metamodel.{Metamodel, same_name, names_feature, numbers, is_below, features_of, class_named, enum_named, feature_named}
-use Rattle.wb_metamodel.specs.declared.classes.Enumeration.{Enumeration}
-use Rattle.wb_metamodel.specs.declared.features.Feature.{Feature}
+use Rattle.wb_ecore.specs.declared.classes.Enumeration.{Enumeration}
+use Rattle.wb_ecore.specs.declared.features.Feature.{Feature}
 use Rattle.wb_metamodel.specs.declared.lookup.Tables.{Tables}
-use Rattle.wb_metamodel.specs.declared.names.Names.{Names}
-use Rattle.wb_metamodel.specs.Names.{number_of}
+use Rattle.wb_ecore.specs.declared.names.Names.{Names}
+use Rattle.wb_ecore.specs.Names.{number_of}
 
 -- the table of a function of two numbers below n
 abbrev pub table_of : {X : Type 0} → ℕ → (ℕ → ℕ → X) → List (List X)

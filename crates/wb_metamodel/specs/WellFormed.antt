@@ -1,11 +1,11 @@
 -- What is true of every metamodel that was read.
 use Rattle.std.specs.Prelude.{◌≡◌, ◌≢◌, ℕ, ◌<◌, ◌≤◌, true, false, List, length, Contains, Some, slice_get}
 use Rattle.wb_json.specs.Form.{is_name}
-use Rattle.wb_metamodel.specs.declared.classes.Class.{Class}
-use Rattle.wb_metamodel.specs.declared.classes.Enumeration.{Enumeration}
-use Rattle.wb_metamodel.specs.declared.features.Feature.{Feature}
-use Rattle.wb_metamodel.specs.declared.features.Kind.{Kind}
-use Rattle.wb_metamodel.specs.declared.features.Kind.TheVariants.{Int, Bool as BoolKind, Text, Enum, Reference}
+use Rattle.wb_ecore.specs.declared.classes.Class.{Class}
+use Rattle.wb_ecore.specs.declared.classes.Enumeration.{Enumeration}
+use Rattle.wb_ecore.specs.declared.features.Feature.{Feature}
+use Rattle.wb_ecore.specs.declared.features.Kind.{Kind}
+use Rattle.wb_ecore.specs.declared.features.Kind.TheVariants.{Int, Bool as BoolKind, Text, Enum, Reference}
 use Rattle.wb_metamodel.specs.Metamodel.{Metamodel, is_supertype, is_below, features_of, feature_at, class_at, enum_at, class_named, enum_named, feature_named, literal_named, literal_total}
 
 -- the class or the enumeration of a kind is one of the metamodel

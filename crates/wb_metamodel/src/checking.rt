@@ -6,13 +6,10 @@ ghost use Rattle.wb_metamodel.specs.Metamodel as definition;
 ghost use Rattle.wb_metamodel.specs.Tables.{TablesOf, is_other, below_table};
 ghost use Rattle.wb_metamodel.specs.Checks.{wrong_class, wrong_feature, no_cycle, no_clash, opposites_match, few, has_clash, has_mismatch, is_mismatched, unfit, refers_to, is_small};
 
-use crate::classes::Enumeration;
-use crate::content::Content;
-use crate::features::{Feature, Kind};
 use crate::lookup::Tables;
-use crate::numbers::{ClassId, FeatureId};
 use std::alloc::Global;
 use wb_base::List;
+use wb_ecore::{ClassId, Content, Enumeration, Feature, FeatureId, Kind};
 use wb_json::Wrong;
 
 /// No class is its own supertype.

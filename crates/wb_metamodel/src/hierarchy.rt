@@ -2,11 +2,9 @@ ghost use Rattle.std.specs.Prelude.{◌≡◌, ◌<◌, ℕ, true, [], length, m
 ghost use Rattle.wb_metamodel.specs.Metamodel as definition;
 ghost use Rattle.wb_metamodel.specs.Tables.{or_row, widened, direct_row, below_table};
 
-use crate::classes::Class;
-use crate::content::Content;
-use crate::numbers::ClassId;
 use std::alloc::{AllocError, Global};
 use wb_base::List;
+use wb_ecore::{Class, ClassId, Content};
 
 /// For each pair of classes, whether a path of one or more supertypes leads from the first to the second.
 pub fn below_table(alloc: Global, content: &Content) -> Result<List<List<bool>>, AllocError>

@@ -4,10 +4,9 @@ ghost use Rattle.wb_metamodel.specs.Metamodel as definition;
 ghost use Rattle.wb_metamodel.specs.Tables.{below_table, features_table, rank_of};
 ghost use Rattle.wb_metamodel.specs.Inherited.{IsHierarchy, FilledTo, all_features};
 
-use crate::content::Content;
-use crate::numbers::{ClassId, FeatureId};
 use std::alloc::{AllocError, Global};
 use wb_base::List;
+use wb_ecore::{ClassId, Content, FeatureId};
 
 /// The features of each class, where no class is its own supertype.
 pub fn features_table(

@@ -1,6 +1,5 @@
-use crate::names::Names;
-use crate::numbers::FeatureId;
 use wb_base::List;
+use wb_ecore::{FeatureId, Names};
 
 /// What a metamodel is looked up by.
 #[derive(Drop)]

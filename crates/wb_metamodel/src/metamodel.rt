@@ -3,14 +3,12 @@ ghost use Rattle.wb_metamodel.specs.Metamodel as definition;
 ghost use Rattle.wb_metamodel.specs.WellFormed.{WellFormed, IsWellFormed};
 ghost use Rattle.wb_metamodel.specs.Tables.{TablesOf};
 
-use crate::content::Content;
-use crate::features::Feature;
 use crate::lookup::Tables;
-use crate::numbers::{ClassId, EnumId, FeatureId};
 use crate::tables::tables;
 use std::alloc::{AllocError, Global};
 use std::marker::Model;
 use wb_base::{Duplicate, Text};
+use wb_ecore::{ClassId, Content, EnumId, Feature, FeatureId};
 
 /// A metamodel: classes with supertypes, features and enumerations.
 #[derive(Drop)]

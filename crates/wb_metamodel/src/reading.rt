@@ -1,21 +1,17 @@
 ghost use Rattle.std.specs.Prelude.{◌≡◌, Ok, IfOk, codes, ◌++◌};
 ghost use Rattle.wb_json.specs.Form.{Gives};
-ghost use Rattle.wb_metamodel.specs.Document.{HasNames};
+ghost use Rattle.wb_ecore.specs.Document.{HasNames};
 ghost use Rattle.wb_metamodel.specs.Tables.{TablesOf};
 ghost use Rattle.wb_metamodel.specs.Checks.{Answers, Refuses, coded, metamodel, read_document, resolve, check, later};
 
 use crate::checking::{few, no_clash, no_cycle, opposites_match};
-use crate::content::Content;
-use crate::contents::resolved;
-use crate::document::Document;
 use crate::hierarchy::below_table;
 use crate::lookup::Tables;
 use crate::metamodel::Metamodel;
-use crate::refusal::{MetamodelCode, MetamodelRefusal};
-use crate::repeats::unrepeated_names;
 use crate::tables::tables;
 use std::alloc::{AllocError, Global};
 use wb_base::Text;
+use wb_ecore::{Content, Document, MetamodelCode, MetamodelRefusal, resolved, unrepeated_names};
 use wb_json::{Form, Wrong, parse_json};
 
 /// The metamodel that a JSON text is, or what is wrong with it first, and where.

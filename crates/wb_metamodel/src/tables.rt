@@ -1,18 +1,14 @@
 ghost use Rattle.std.specs.Prelude.{◌≡◌, ◌<◌, ◌^◌, ℕ, List, Some, None, IfOk, length, map, All, slice_get, unwrap_or};
 ghost use Rattle.std.specs.List.{AllZip};
-ghost use Rattle.wb_metamodel.specs.Names.{number_of};
+ghost use Rattle.wb_ecore.specs.Names.{number_of};
 ghost use Rattle.wb_metamodel.specs.Tables.{LiteralPlaces, HasRow, TablesOf, below_table};
 ghost use Rattle.wb_metamodel.specs.Inherited.{IsHierarchy};
 
-use crate::classes::Enumeration;
-use crate::content::Content;
-use crate::features::Feature;
 use crate::inherited::features_table;
 use crate::lookup::Tables;
-use crate::names::Names;
-use crate::numbers::FeatureId;
 use std::alloc::{AllocError, Global};
 use wb_base::List;
+use wb_ecore::{Content, Enumeration, Feature, FeatureId, Names};
 
 /// What a metamodel is looked up by, of one whose classes have no cycle.
 pub fn tables(

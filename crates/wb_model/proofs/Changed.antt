@@ -5,26 +5,27 @@ use Rattle.std.proofs.lemmas.List.{length_push}
 use Rattle.std.specs.Prelude.{filter, IsSome}
 use Rattle.std.specs.Option.{option_map_or}
 use Rattle.std.specs.List.{list_any, flat_map}
-use Rattle.wb_metamodel.specs.declared.features.Feature.{Feature}
+use Rattle.wb_ecore.specs.declared.features.Feature.{Feature}
 use Rattle.wb_metamodel.specs.Metamodel.{Metamodel, conforms}
 use Rattle.wb_metamodel.specs.WellFormed.{WellFormed}
-use Rattle.wb_model.specs.declared.scalars.Scalar.{Scalar}
-use Rattle.wb_model.specs.declared.scalars.Scalar.TheVariants.{Object}
-use Rattle.wb_model.specs.Scalars.{same}
-use Rattle.wb_model.specs.ScalarLaws.{same_decides}
-use Rattle.wb_model.specs.Contents.{Contents, kind, slot, contains}
-use Rattle.wb_model.specs.Cells.{is_plain}
-use Rattle.wb_model.specs.Edits.{Link, link, relink, other_end, both_ends, change, is_at}
-use Rattle.wb_model.specs.Valid.{has_feature, is_of_class, room, conforms_to, is_of_kind, is_of_feature, differ, Within, is_root, once}
-use Rattle.wb_model.specs.Valid.Within.{directly, through}
+use Rattle.wb_store.specs.declared.scalars.Scalar.{Scalar}
+use Rattle.wb_store.specs.declared.scalars.Scalar.TheVariants.{Object}
+use Rattle.wb_store.specs.Scalars.{same}
+use Rattle.wb_store.specs.ScalarLaws.{same_decides}
+use Rattle.wb_store.specs.Contents.{Contents, kind, slot, contains}
+use Rattle.wb_store.specs.Cells.{is_plain}
+use Rattle.wb_store.specs.Relinking.{Link, link, relink, other_end, both_ends, change, is_at}
+use Rattle.wb_store.specs.Places.{once}
+use Rattle.wb_validity.specs.Valid.{has_feature, is_of_class, room, conforms_to, is_of_kind, is_of_feature, differ, Within, is_root}
+use Rattle.wb_validity.specs.Valid.Within.{directly, through}
 use Rattle.wb_model.proofs.Ends.{opposites, opposite-apart, plain-parts, plain-other, Opposed, other_end-cases, In-other_end, In-both_ends, ends-cases, opposed-unique, opposed-back, ends-mirrored}
 use Rattle.wb_model.proofs.FeatureOwners.{feature-owner, owner-feature}
-use Rattle.wb_model.proofs.Filtered.{In-cons, filter-In, In-filter, filter-few}
-use Rattle.wb_model.proofs.LinkLemmas.{any_found, to_false}
+use Rattle.wb_store.proofs.Filtered.{In-cons, filter-In, In-filter, filter-few}
+use Rattle.wb_validity.proofs.LinkLemmas.{any_found, to_false}
 use Rattle.wb_model.proofs.Live.{kind-at}
-use Rattle.wb_model.proofs.Members.{In, any_In, In-append_left, In-append_right, In-append_cases, flat_map-In}
-use Rattle.wb_model.proofs.Members.In.{here, there}
-use Rattle.wb_model.proofs.Relinked.{values_at, is_at-link, is_at-itself, slot-relink}
+use Rattle.wb_store.proofs.Members.{In, any_In, In-append_left, In-append_right, In-append_cases, flat_map-In}
+use Rattle.wb_store.proofs.Members.In.{here, there}
+use Rattle.wb_store.proofs.Relinked.{values_at, is_at-link, is_at-itself, slot-relink}
 use Rattle.wb_model.proofs.Sound.{Stands, contains-parts, contains-from, Sound, Housed}
 
 -- ---- lists of values

@@ -5,24 +5,26 @@ use Rattle.std.specs.Prelude.{filter, IsSome}
 use Rattle.std.specs.Option.{option_map_or}
 use Rattle.std.specs.List.{list_any, flat_map}
 use Rattle.wb_metamodel.specs.Metamodel.{Metamodel}
-use Rattle.wb_metamodel.specs.declared.features.Feature.{Feature}
-use Rattle.wb_metamodel.specs.declared.features.Kind.TheVariants.{Reference}
+use Rattle.wb_ecore.specs.declared.features.Feature.{Feature}
+use Rattle.wb_ecore.specs.declared.features.Kind.TheVariants.{Reference}
 use Rattle.wb_metamodel.specs.WellFormed.{WellFormed}
-use Rattle.wb_model.specs.declared.scalars.Scalar.{Scalar}
-use Rattle.wb_model.specs.declared.scalars.Scalar.TheVariants.{Int, Bool as Boolean, Text, Literal, Object}
-use Rattle.wb_model.specs.Contents.{Contents, slot, kind}
-use Rattle.wb_model.specs.Valid.{opposite, is_many, is_of_feature, is_of_kind}
-use Rattle.wb_model.specs.Edits.{Link, link, relink, other_end, both_ends, change, is_at, same_link, gives_way, unlink, emptied, stands, link_up}
-use Rattle.wb_model.specs.LinkSteps.{with_link, with_only, without_link, each_left, with_ends, is_given, first_object, gives_place}
+use Rattle.wb_store.specs.declared.scalars.Scalar.{Scalar}
+use Rattle.wb_store.specs.declared.scalars.Scalar.TheVariants.{Int, Bool as Boolean, Text, Literal, Object}
+use Rattle.wb_store.specs.Contents.{Contents, slot, kind}
+use Rattle.wb_store.specs.Features.{is_many, opposite}
+use Rattle.wb_validity.specs.Valid.{is_of_feature, is_of_kind}
+use Rattle.wb_store.specs.Relinking.{Link, link, relink, other_end, both_ends, change, is_at, same_link, stands, gives_way}
+use Rattle.wb_model.specs.Edits.{unlink, emptied, link_up}
+use Rattle.wb_store.specs.LinkSteps.{with_link, with_only, without_link, each_left, with_ends, is_given, first_object, gives_place}
 use Rattle.wb_model.proofs.Changed.{both-same}
 use Rattle.wb_model.proofs.Ends.{Opposed, Opposites, opposites, other_end-is, other_end-In, other_end-cases, In-both_ends, opposed-unique, opposed-back}
 use Rattle.wb_model.proofs.EditSteps.{relink-relink, relink-agree, unlink-alone, unlink-both, same_link-is, same_link-itself, linked-alone, emptied-alone, way-both, clears, come-alone, come-both}
-use Rattle.wb_model.proofs.LinkLemmas.{any_found, to_false}
-use Rattle.wb_model.proofs.Members.{In, any_In}
-use Rattle.wb_model.proofs.Members.In.{here, there}
-use Rattle.wb_model.proofs.Relinked.{values_at, is_at-link, is_at-itself, kind-relink, metamodel-relink, none-any}
+use Rattle.wb_validity.proofs.LinkLemmas.{any_found, to_false}
+use Rattle.wb_store.proofs.Members.{In, any_In}
+use Rattle.wb_store.proofs.Members.In.{here, there}
+use Rattle.wb_store.proofs.Relinked.{values_at, is_at-link, is_at-itself, kind-relink, metamodel-relink, none-any}
 use Rattle.wb_model.proofs.Sound.{Stands, Sound, absent}
-use Rattle.wb_model.proofs.Relinks.{relink_none}
+use Rattle.wb_store.proofs.Relinks.{relink_none}
 
 -- ---- what a step leaves as it is
 

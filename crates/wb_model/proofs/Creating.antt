@@ -9,22 +9,24 @@ use Rattle.std.specs.List.{list_any, list_all}
 use Rattle.std.specs.FinMap.{get, insert}
 use Rattle.wb_metamodel.specs.Metamodel.{Metamodel}
 use Rattle.wb_metamodel.specs.WellFormed.{WellFormed}
-use Rattle.wb_model.specs.declared.scalars.Scalar.TheVariants.{Object}
-use Rattle.wb_model.specs.declared.scalars.Place.TheVariants.{Root, In as Inside}
-use Rattle.wb_model.specs.declared.records.Slot.{Slot}
-use Rattle.wb_model.specs.Contents.{Contents, kind, slot, is_containment}
-use Rattle.wb_model.specs.Places.{rises}
-use Rattle.wb_model.specs.Records.{values_in, is_known_slot, feature_of}
-use Rattle.wb_model.specs.Valid.{IsValid, opposite}
-use Rattle.wb_model.specs.Edits.{Link, link, back, both_ends, other_end, with_object, created, stands, without_root, is_at}
-use Rattle.wb_model.specs.LinkSteps.{with_link, with_root, Grows, back_slots}
+use Rattle.wb_store.specs.declared.scalars.Scalar.TheVariants.{Object}
+use Rattle.wb_store.specs.declared.scalars.Place.TheVariants.{Root, In as Inside}
+use Rattle.wb_store.specs.declared.records.Slot.{Slot}
+use Rattle.wb_store.specs.Contents.{Contents, kind, slot, is_containment}
+use Rattle.wb_store.specs.Places.{rises}
+use Rattle.wb_store.specs.Records.{values_in, is_known_slot, feature_of}
+use Rattle.wb_store.specs.Features.{opposite}
+use Rattle.wb_validity.specs.Valid.{IsValid}
+use Rattle.wb_store.specs.Relinking.{Link, link, back, other_end, both_ends, is_at, stands, without_root}
+use Rattle.wb_model.specs.Edits.{with_object, created}
+use Rattle.wb_store.specs.LinkSteps.{with_link, with_root, Grows, back_slots}
 use Rattle.wb_model.proofs.Ends.{opposites}
-use Rattle.wb_model.proofs.LinkLemmas.{to_false}
+use Rattle.wb_validity.proofs.LinkLemmas.{to_false}
 use Rattle.wb_model.proofs.Live.{contained-live, kind-some}
-use Rattle.wb_model.proofs.Members.{In, any_In}
-use Rattle.wb_model.proofs.Members.In.{here, there}
-use Rattle.wb_model.proofs.Relinked.{values_at, slot-relink, slot-change, same_contents, next-relink, roots-relink, kinds-relink, metamodel-relink, none-any}
-use Rattle.wb_model.proofs.Relinks.{filter_none, same_test, eqb_sym}
+use Rattle.wb_store.proofs.Members.{In, any_In}
+use Rattle.wb_store.proofs.Members.In.{here, there}
+use Rattle.wb_store.proofs.Relinked.{values_at, slot-relink, slot-change, same_contents, next-relink, roots-relink, kinds-relink, metamodel-relink, none-any}
+use Rattle.wb_store.proofs.Relinks.{filter_none, same_test, eqb_sym}
 use Rattle.wb_model.proofs.Sound.{contains-from, stands-In}
 use Rattle.wb_model.proofs.KeptLinks.{sound, housed}
 
@@ -60,7 +62,7 @@ module _ (m : Contents) (valid : IsValid m) where
             absurd (not_below m.next (subst (λ o. o < m.next) e (live_below m valid o (live_of (kind m o) of_class))))
       ] refl
     where
-      live_of : (r : Option ℕ) → option_map_or (λ c. Rattle.wb_model.specs.Valid.has_feature m.metamodel c f) r false ≡ true → IsSome r
+      live_of : (r : Option ℕ) → option_map_or (λ c. Rattle.wb_validity.specs.Valid.has_feature m.metamodel c f) r false ≡ true → IsSome r
       live_of None h = absurd (false≢true h)
       live_of (Some c) h = refl
 

@@ -5,28 +5,30 @@ use Rattle.std.specs.Prelude.{filter, Ok}
 use Rattle.std.specs.List.{list_any, flat_map}
 use Rattle.wb_metamodel.specs.Metamodel.{Metamodel}
 use Rattle.wb_metamodel.specs.WellFormed.{WellFormed}
-use Rattle.wb_model.specs.declared.scalars.Scalar.{Scalar}
-use Rattle.wb_model.specs.declared.scalars.Scalar.TheVariants.{Object}
-use Rattle.wb_model.specs.declared.scalars.Place.{Place}
-use Rattle.wb_model.specs.declared.scalars.Place.TheVariants.{Root, In as Inside}
-use Rattle.wb_model.specs.Scalars.{same}
-use Rattle.wb_model.specs.ScalarLaws.{same_decides}
-use Rattle.wb_model.specs.Contents.{Contents, kind, slot, is_containment, contains}
-use Rattle.wb_model.specs.Cells.{holder}
-use Rattle.wb_model.specs.Valid.{is_many, IsValid, AreContainedOnce}
-use Rattle.wb_model.specs.Edits.{Link, link, both_ends, change, is_at, same_link, gives_way, leads_to, stands, link_up, unlink, emptied, moved, created, with_object, without_root, refusal_of_link, refusal_of_take, refusal_of_unset, refusal_of_move, refusal_of_create, set, add, take_out, unset, move_to, create}
+use Rattle.wb_store.specs.declared.scalars.Scalar.{Scalar}
+use Rattle.wb_store.specs.declared.scalars.Scalar.TheVariants.{Object}
+use Rattle.wb_store.specs.declared.scalars.Place.{Place}
+use Rattle.wb_store.specs.declared.scalars.Place.TheVariants.{Root, In as Inside}
+use Rattle.wb_store.specs.Scalars.{same}
+use Rattle.wb_store.specs.ScalarLaws.{same_decides}
+use Rattle.wb_store.specs.Contents.{Contents, kind, slot, is_containment, contains}
+use Rattle.wb_store.specs.Cells.{holder}
+use Rattle.wb_store.specs.Features.{is_many}
+use Rattle.wb_validity.specs.Valid.{IsValid, AreContainedOnce}
+use Rattle.wb_store.specs.Relinking.{Link, link, both_ends, change, is_at, same_link, leads_to, stands, gives_way, without_root}
+use Rattle.wb_model.specs.Edits.{link_up, unlink, emptied, moved, created, with_object, refusal_of_link, refusal_of_take, refusal_of_unset, refusal_of_move, refusal_of_create, set, add, take_out, unset, move_to, create}
 use Rattle.wb_model.proofs.Changed.{alone-ends, In-values_at}
 use Rattle.wb_model.proofs.Ends.{opposite-apart, containment-one, In-both_ends, ends-this, ends-cases}
-use Rattle.wb_model.proofs.Filtered.{In-cons, filter-none, filter-all, filter-same}
+use Rattle.wb_store.proofs.Filtered.{In-cons, filter-none, filter-all, filter-same}
 use Rattle.wb_model.proofs.KeptCreated.{kind-new, may-place, is_placed, kept_create}
 use Rattle.wb_model.proofs.KeptLinks.{accepted, sound, housed, link-accepted, way-all}
 use Rattle.wb_model.proofs.KeptMoved.{moves-into, may-move, is_there, kept_move}
-use Rattle.wb_model.proofs.LinkLemmas.{any_found, to_false}
+use Rattle.wb_validity.proofs.LinkLemmas.{any_found, to_false}
 use Rattle.wb_model.proofs.Live.{contained-live}
-use Rattle.wb_model.proofs.Members.{In}
-use Rattle.wb_model.proofs.Members.In.{here}
+use Rattle.wb_store.proofs.Members.{In}
+use Rattle.wb_store.proofs.Members.In.{here}
 use Rattle.wb_model.proofs.MoveSteps.{holder-some, holder-none}
-use Rattle.wb_model.proofs.Relinked.{values_at, is_at-link, is_at-itself, slot-relink, kind-relink, none-any}
+use Rattle.wb_store.proofs.Relinked.{values_at, is_at-link, is_at-itself, slot-relink, kind-relink, none-any}
 use Rattle.wb_model.proofs.Sound.{stands-In, absent, contains-from, Sound}
 
 -- ---- the value that comes

@@ -4,15 +4,17 @@ use Rattle.std.proofs.lemmas.Bool.{false≢true, not_from_true, or_right}
 use Rattle.std.specs.Prelude.{filter, IsSome, Ok}
 use Rattle.std.specs.List.{list_any, flat_map}
 use Rattle.wb_metamodel.specs.WellFormed.{WellFormed}
-use Rattle.wb_model.specs.declared.scalars.Scalar.{Scalar}
-use Rattle.wb_model.specs.declared.scalars.Scalar.TheVariants.{Object}
-use Rattle.wb_model.specs.declared.scalars.Place.{Place}
-use Rattle.wb_model.specs.declared.scalars.Place.TheVariants.{Root, In as Inside}
+use Rattle.wb_store.specs.declared.scalars.Scalar.{Scalar}
+use Rattle.wb_store.specs.declared.scalars.Scalar.TheVariants.{Object}
+use Rattle.wb_store.specs.declared.scalars.Place.{Place}
+use Rattle.wb_store.specs.declared.scalars.Place.TheVariants.{Root, In as Inside}
 use Rattle.wb_model.specs.declared.refusals.ModelRefusal.TheVariants.{UnknownObject}
-use Rattle.wb_model.specs.Contents.{Contents, kind, slot, has_object}
-use Rattle.wb_model.specs.Cells.{tree}
-use Rattle.wb_model.specs.Valid.{opposite, Within, IsValid}
-use Rattle.wb_model.specs.Edits.{Link, link, relink, both_ends, change, is_at, same_link, gives_way, leads_to, touches, stands, is_among, is_value_among, is_live, link_up, unlink, emptied, moved, removed, created, with_object, without_root, refusal_of_link, refusal_of_take, refusal_of_unset, refusal_of_move, refusal_of_create, set, add, take_out, unset, move_to, remove}
+use Rattle.wb_store.specs.Contents.{Contents, kind, slot, has_object}
+use Rattle.wb_store.specs.Cells.{tree}
+use Rattle.wb_store.specs.Features.{opposite}
+use Rattle.wb_validity.specs.Valid.{Within, IsValid}
+use Rattle.wb_store.specs.Relinking.{Link, link, relink, both_ends, change, is_at, same_link, leads_to, is_among, is_value_among, touches, stands, gives_way, without_root}
+use Rattle.wb_model.specs.Edits.{is_live, link_up, unlink, emptied, moved, removed, created, with_object, refusal_of_link, refusal_of_take, refusal_of_unset, refusal_of_move, refusal_of_create, set, add, take_out, unset, move_to, remove}
 use Rattle.wb_model.specs.EditLaws.{IsEdited, AreEdited, KeepsOrder, NumbersAreFresh, GoesWith, IsNowhere}
 use Rattle.wb_model.specs.EditLaws.IsEdited.{by_set, by_add, by_take, by_unset, by_move, by_remove, by_create}
 use Rattle.wb_model.specs.EditLaws.AreEdited.{by_none, by_more}
@@ -20,19 +22,20 @@ use Rattle.wb_model.proofs.Changed.{IsAlone, alone-ends, both-same, relink-Stand
 use Rattle.wb_model.proofs.EditSteps.{relink-agree, same_link-is}
 use Rattle.wb_model.proofs.Ends.{ends-cases, opposite-back}
 use Rattle.wb_model.proofs.FewerRoots.{among-filter}
-use Rattle.wb_model.proofs.Filtered.{In-cons, filter-all}
-use Rattle.wb_model.proofs.HolderLemmas.{decide}
+use Rattle.wb_store.proofs.Filtered.{In-cons, filter-all}
+use Rattle.wb_store.proofs.HolderLemmas.{decide}
 use Rattle.wb_model.proofs.KeptCreated.{kept_create, kind-other}
 use Rattle.wb_model.proofs.KeptLinks.{accepted, sound, housed, kept_set, kept_add, kept_take, kept_unset}
 use Rattle.wb_model.proofs.KeptMoved.{kept_move}
-use Rattle.wb_model.proofs.KeptRemoved.{kept_remove, kind-without, kind-stays, slot-without, among-value}
-use Rattle.wb_model.proofs.LinkLemmas.{to_false}
-use Rattle.wb_model.proofs.Members.{In}
-use Rattle.wb_model.proofs.Members.In.{here, there}
-use Rattle.wb_model.proofs.Relinked.{values_at, is_at-link, slot-relink, metamodel-relink}
+use Rattle.wb_store.proofs.Without.{kind-without, slot-without}
+use Rattle.wb_model.proofs.KeptRemoved.{kept_remove, kind-stays, among-value}
+use Rattle.wb_validity.proofs.LinkLemmas.{to_false}
+use Rattle.wb_store.proofs.Members.{In}
+use Rattle.wb_store.proofs.Members.In.{here, there}
+use Rattle.wb_store.proofs.Relinked.{values_at, is_at-link, slot-relink, metamodel-relink}
 use Rattle.wb_model.proofs.Sound.{Stands, stands-In, In-stands, absent, Sound}
 use Rattle.wb_model.proofs.TreesWithin.{tree-decides, tree-within, within-tree, among-In, In-among}
-use Rattle.wb_model.proofs.Relinks.{relink_none}
+use Rattle.wb_store.proofs.Relinks.{relink_none}
 
 -- ---- validity
 

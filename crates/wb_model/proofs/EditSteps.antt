@@ -7,22 +7,23 @@ use Rattle.std.specs.Prelude.{filter}
 use Rattle.std.specs.List.{list_any, flat_map}
 use Rattle.wb_metamodel.specs.Metamodel.{Metamodel}
 use Rattle.wb_metamodel.specs.WellFormed.{WellFormed}
-use Rattle.wb_model.specs.declared.scalars.Scalar.{Scalar}
-use Rattle.wb_model.specs.Scalars.{same}
-use Rattle.wb_model.specs.ScalarLaws.{same_decides}
-use Rattle.wb_model.specs.Contents.{Contents, slot}
-use Rattle.wb_model.specs.Valid.{opposite, is_many}
-use Rattle.wb_model.specs.Edits.{Link, link, relink, other_end, both_ends, change, is_at, same_link, gives_way, unlink, emptied}
-use Rattle.wb_model.specs.LinkSteps.{each_left}
+use Rattle.wb_store.specs.declared.scalars.Scalar.{Scalar}
+use Rattle.wb_store.specs.Scalars.{same}
+use Rattle.wb_store.specs.ScalarLaws.{same_decides}
+use Rattle.wb_store.specs.Contents.{Contents, slot}
+use Rattle.wb_store.specs.Features.{is_many, opposite}
+use Rattle.wb_store.specs.Relinking.{Link, link, relink, other_end, both_ends, change, is_at, same_link, gives_way}
+use Rattle.wb_model.specs.Edits.{unlink, emptied}
+use Rattle.wb_store.specs.LinkSteps.{each_left}
 use Rattle.wb_model.proofs.Changed.{both-same}
 use Rattle.wb_model.proofs.Ends.{Opposed, other_end-is, other_end-In, In-other_end, In-both_ends, ends-this, ends-that, ends-cases, opposed-unique, opposed-back}
-use Rattle.wb_model.proofs.Filtered.{filter-same, filter-twice}
-use Rattle.wb_model.proofs.LinkLemmas.{any_found}
-use Rattle.wb_model.proofs.Members.{In, any_In, In-flat_map, flat_map-In}
-use Rattle.wb_model.proofs.Members.In.{here, there}
-use Rattle.wb_model.proofs.Relinked.{values_at, values_at-append, values_at-filter, is_at-link, is_at-itself, slot-relink, same_contents, none-any}
+use Rattle.wb_store.proofs.Filtered.{filter-same, filter-twice}
+use Rattle.wb_validity.proofs.LinkLemmas.{any_found}
+use Rattle.wb_store.proofs.Members.{In, any_In, In-flat_map, flat_map-In}
+use Rattle.wb_store.proofs.Members.In.{here, there}
+use Rattle.wb_store.proofs.Relinked.{values_at, values_at-append, values_at-filter, is_at-link, is_at-itself, slot-relink, same_contents, none-any}
 use Rattle.wb_model.proofs.Sound.{Stands, Sound}
-use Rattle.wb_model.proofs.Relinks.{relink_none}
+use Rattle.wb_store.proofs.Relinks.{relink_none}
 
 -- ---- relinks of relinks
 

@@ -5,9 +5,10 @@ use Rattle.std.specs.Prelude.{IsSome, is_some}
 use Rattle.std.specs.Result.{IsErrAnd}
 use Rattle.wb_model.specs.declared.refusals.ModelRefusal.{ModelRefusal}
 use Rattle.wb_model.specs.declared.refusals.ModelRefusal.TheVariants.{UnknownObject, KindMismatch, UpperBound, ContainmentCycle, AbstractClass, TooManyObjects, IdsSpent, NoMemory}
-use Rattle.wb_model.specs.Contents.{Contents, kind}
-use Rattle.wb_model.specs.Valid.{IsValid, is_of_feature}
-use Rattle.wb_model.specs.Edits.{Link, unless, Edited, first_refusal, is_live, is_known_value, is_plain_feature, refusal_of_link}
+use Rattle.wb_store.specs.Contents.{Contents, kind}
+use Rattle.wb_validity.specs.Valid.{IsValid, is_of_feature}
+use Rattle.wb_store.specs.Relinking.{Link}
+use Rattle.wb_model.specs.Edits.{unless, Edited, first_refusal, is_live, is_known_value, is_plain_feature, refusal_of_link}
 use Rattle.wb_model.specs.EditChecks.{Tells}
 use Rattle.wb_model.proofs.KeptLinks.{link-accepted}
 

@@ -5,10 +5,10 @@ use Rattle.std.specs.Ordering.{nat_cmp}
 use Rattle.std.specs.Option.{IsSome, option_map_or}
 use Rattle.std.specs.FinMap.{get-empty, len-empty, entries}
 use Rattle.wb_metamodel.specs.Metamodel.{Metamodel}
-use Rattle.wb_model.specs.Contents.{empty_contents, kind, slot, slot_cmp, Filled, members, has_object, contains, is_containment}
-use Rattle.wb_model.specs.Valid.{Valid, IsValid, Within}
-use Rattle.wb_model.specs.Valid.Within.{directly, through}
-use Rattle.wb_model.proofs.Maps.{entries-kinds, entries-slots}
+use Rattle.wb_store.specs.Contents.{empty_contents, kind, slot, slot_cmp, Filled, members, has_object, contains, is_containment}
+use Rattle.wb_validity.specs.Valid.{Valid, IsValid, Within}
+use Rattle.wb_validity.specs.Valid.Within.{directly, through}
+use Rattle.wb_store.proofs.Maps.{entries-kinds, entries-slots}
 
 and_none : (b : Bool) → (b && false) ≡ false
 and_none true = refl

@@ -4,19 +4,19 @@ use Rattle.std.proofs.lemmas.Bool.{and_parts, and_from, or_left, not-true, not_f
 use Rattle.std.proofs.lemmas.Option.{none-some, same_Some}
 use Rattle.std.specs.Option.{option_map_or}
 use Rattle.std.specs.List.{list_any}
-use Rattle.wb_metamodel.specs.declared.features.Feature.{Feature}
+use Rattle.wb_ecore.specs.declared.features.Feature.{Feature}
 use Rattle.wb_metamodel.specs.Metamodel.{Metamodel, feature_at}
 use Rattle.wb_metamodel.specs.WellFormed.{WellFormed, AreOpposite}
-use Rattle.wb_model.specs.declared.scalars.Scalar.{Scalar}
-use Rattle.wb_model.specs.declared.scalars.Scalar.TheVariants.{Int, Bool as Boolean, Text, Literal, Object}
-use Rattle.wb_model.specs.Contents.{is_containment}
-use Rattle.wb_model.specs.Cells.{is_container_reference, is_plain}
-use Rattle.wb_model.specs.Valid.{opposite, is_many}
-use Rattle.wb_model.specs.Edits.{Link, link, back, other_end, both_ends}
-use Rattle.wb_model.proofs.Filtered.{In-cons}
-use Rattle.wb_model.proofs.LinkLemmas.{any_found}
-use Rattle.wb_model.proofs.Members.{In, any_In}
-use Rattle.wb_model.proofs.Members.In.{here, there}
+use Rattle.wb_store.specs.declared.scalars.Scalar.{Scalar}
+use Rattle.wb_store.specs.declared.scalars.Scalar.TheVariants.{Int, Bool as Boolean, Text, Literal, Object}
+use Rattle.wb_store.specs.Contents.{is_containment}
+use Rattle.wb_store.specs.Cells.{is_container_reference, is_plain}
+use Rattle.wb_store.specs.Features.{is_many, opposite}
+use Rattle.wb_store.specs.Relinking.{Link, link, back, other_end, both_ends}
+use Rattle.wb_store.proofs.Filtered.{In-cons}
+use Rattle.wb_validity.proofs.LinkLemmas.{any_found}
+use Rattle.wb_store.proofs.Members.{In, any_In}
+use Rattle.wb_store.proofs.Members.In.{here, there}
 
 -- ---- opposite features
 

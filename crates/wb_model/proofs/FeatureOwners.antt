@@ -5,19 +5,19 @@ use Rattle.std.proofs.lemmas.Option.{slice_get_within}
 use Rattle.std.specs.Prelude.{filter}
 use Rattle.std.specs.Option.{option_map_or}
 use Rattle.std.specs.List.{flat_map, range_with_len, slice_get}
-use Rattle.wb_metamodel.specs.declared.features.Feature.{Feature}
+use Rattle.wb_ecore.specs.declared.features.Feature.{Feature}
 use Rattle.wb_metamodel.specs.Metamodel.{Metamodel, numbers, supertypes_of, is_supertype, Conforms, conforms, first_places, own_features, features_within, features_of, feature_at}
 use Rattle.wb_metamodel.specs.Metamodel.Conforms.{itself, upwards}
 use Rattle.wb_metamodel.specs.WellFormed.{WellFormed}
 use Rattle.wb_metamodel.proofs.Paths.{supertype-known, conforms-path, path-conforms}
 use Rattle.wb_metamodel.proofs.Ranks.{features_of-step}
-use Rattle.wb_model.specs.Valid.{has_feature}
-use Rattle.wb_model.proofs.Filtered.{In-cons, filter-In, In-filter}
-use Rattle.wb_model.proofs.Found.{is_itself}
-use Rattle.wb_model.proofs.HolderLemmas.{decide}
-use Rattle.wb_model.proofs.LinkLemmas.{any_found}
-use Rattle.wb_model.proofs.Members.{In, any_In, In-append_left, In-append_right, In-append_cases, In-flat_map, flat_map-In}
-use Rattle.wb_model.proofs.Members.In.{here, there}
+use Rattle.wb_validity.specs.Valid.{has_feature}
+use Rattle.wb_store.proofs.Filtered.{In-cons, filter-In, In-filter}
+use Rattle.wb_store.proofs.Found.{is_itself}
+use Rattle.wb_store.proofs.HolderLemmas.{decide}
+use Rattle.wb_validity.proofs.LinkLemmas.{any_found}
+use Rattle.wb_store.proofs.Members.{In, any_In, In-append_left, In-append_right, In-append_cases, In-flat_map, flat_map-In}
+use Rattle.wb_store.proofs.Members.In.{here, there}
 
 -- ---- first places
 

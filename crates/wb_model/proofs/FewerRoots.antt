@@ -2,10 +2,10 @@
 use Rattle.std.proofs.Common.{◌≡◌, ℕ, Bool, true, false, not, List, [], ◌∷◌, refl, sym, ◌∙◌, cond}
 use Rattle.std.proofs.lemmas.Bool.{and_parts, and_from, false≢true, not-true, not_from_false}
 use Rattle.std.specs.Prelude.{filter}
-use Rattle.wb_model.specs.Valid.{once}
-use Rattle.wb_model.specs.Edits.{is_among}
-use Rattle.wb_model.proofs.Filtered.{filter-In, In-filter}
-use Rattle.wb_model.proofs.LinkLemmas.{to_false}
+use Rattle.wb_store.specs.Places.{once}
+use Rattle.wb_store.specs.Relinking.{is_among}
+use Rattle.wb_store.proofs.Filtered.{filter-In, In-filter}
+use Rattle.wb_validity.proofs.LinkLemmas.{to_false}
 use Rattle.wb_model.proofs.TreesWithin.{among-In, In-among}
 
 module _ (p : ℕ → Bool) where

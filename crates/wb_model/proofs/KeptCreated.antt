@@ -8,34 +8,36 @@ use Rattle.std.specs.Prelude.{IsSome, Ok}
 use Rattle.std.specs.Option.{option_map_or}
 use Rattle.std.specs.List.{list_any, flat_map}
 use Rattle.std.specs.FinMap.{len, get-insert, len-insert, contains_key}
-use Rattle.wb_metamodel.specs.declared.features.Feature.{Feature}
-use Rattle.wb_metamodel.specs.declared.features.Kind.{Kind}
-use Rattle.wb_metamodel.specs.declared.features.Kind.TheVariants.{Int as IntKind, Bool as BoolKind, Text as TextKind, Enum, Reference}
+use Rattle.wb_ecore.specs.declared.features.Feature.{Feature}
+use Rattle.wb_ecore.specs.declared.features.Kind.{Kind}
+use Rattle.wb_ecore.specs.declared.features.Kind.TheVariants.{Int as IntKind, Bool as BoolKind, Text as TextKind, Enum, Reference}
 use Rattle.wb_metamodel.specs.Metamodel.{Metamodel, conforms, feature_at}
 use Rattle.wb_metamodel.specs.WellFormed.{WellFormed}
-use Rattle.wb_model.specs.declared.scalars.Scalar.{Scalar}
-use Rattle.wb_model.specs.declared.scalars.Scalar.TheVariants.{Object}
-use Rattle.wb_model.specs.declared.scalars.Place.{Place}
-use Rattle.wb_model.specs.declared.scalars.Place.TheVariants.{Root, In as Inside}
+use Rattle.wb_store.specs.declared.scalars.Scalar.{Scalar}
+use Rattle.wb_store.specs.declared.scalars.Scalar.TheVariants.{Object}
+use Rattle.wb_store.specs.declared.scalars.Place.{Place}
+use Rattle.wb_store.specs.declared.scalars.Place.TheVariants.{Root, In as Inside}
 use Rattle.wb_model.specs.declared.refusals.ModelRefusal.{ModelRefusal}
 use Rattle.wb_model.specs.declared.refusals.ModelRefusal.TheVariants.{UnknownObject, KindMismatch, UpperBound, AbstractClass, TooManyObjects, IdsSpent}
-use Rattle.wb_model.specs.Contents.{Contents, kind, slot, is_containment, contains}
-use Rattle.wb_model.specs.Valid.{is_abstract, room, is_of_class, is_of_kind, is_of_feature, is_root, once, RootsAreUncontained, IsValid}
-use Rattle.wb_model.specs.Edits.{Link, link, relink, both_ends, with_object, created, first_refusal, is_live, may_contain, refers_to, is_full, refusal_of_create, create}
+use Rattle.wb_store.specs.Contents.{Contents, kind, slot, is_containment, contains}
+use Rattle.wb_store.specs.Places.{once}
+use Rattle.wb_validity.specs.Valid.{is_abstract, room, is_of_class, is_of_kind, is_of_feature, is_root, RootsAreUncontained, IsValid}
+use Rattle.wb_store.specs.Relinking.{Link, link, relink, both_ends}
+use Rattle.wb_model.specs.Edits.{with_object, created, first_refusal, is_live, may_contain, refers_to, is_full, refusal_of_create, create}
 use Rattle.wb_model.proofs.Changed.{stay_at, IsKnown, fits-one, sound-relink, relink-Stands, relink-stays, relink-comes, within-less}
 use Rattle.wb_model.proofs.Ends.{Opposed, containment-one, In-both_ends}
-use Rattle.wb_model.proofs.Filtered.{filter-few, filter-none}
-use Rattle.wb_model.proofs.Found.{is_itself}
-use Rattle.wb_model.proofs.HolderLemmas.{decide}
+use Rattle.wb_store.proofs.Filtered.{filter-few, filter-none}
+use Rattle.wb_store.proofs.Found.{is_itself}
+use Rattle.wb_store.proofs.HolderLemmas.{decide}
 use Rattle.wb_model.proofs.KeptLinks.{not_refused, accepted, sound, housed, valid, one-space}
-use Rattle.wb_model.proofs.LinkLemmas.{to_false}
+use Rattle.wb_validity.proofs.LinkLemmas.{to_false}
 use Rattle.wb_model.proofs.Live.{kind-some, some-kind, object-live, value-live, holder-live, contained-live, live-below, of_class-kept, of_feature-kept}
-use Rattle.wb_model.proofs.Members.{In}
-use Rattle.wb_model.proofs.Members.In.{here}
+use Rattle.wb_store.proofs.Members.{In}
+use Rattle.wb_store.proofs.Members.In.{here}
 use Rattle.wb_model.proofs.Rehoused.{IsRehoused, housed-rehoused, within-first}
-use Rattle.wb_model.proofs.Relinked.{kind-relink}
+use Rattle.wb_store.proofs.Relinked.{kind-relink}
 use Rattle.wb_model.proofs.Sound.{contains-parts, contains-from, Sound, Housed}
-use Rattle.wb_model.proofs.Maps.{tied}
+use Rattle.wb_store.proofs.Maps.{tied}
 
 -- ---- what an accepted edit says
 

@@ -6,20 +6,22 @@ use Rattle.std.specs.Prelude.{Ok}
 use Rattle.std.specs.List.{list_any, flat_map}
 use Rattle.wb_metamodel.specs.Metamodel.{Metamodel}
 use Rattle.wb_metamodel.specs.WellFormed.{WellFormed}
-use Rattle.wb_model.specs.declared.scalars.Scalar.{Scalar}
+use Rattle.wb_store.specs.declared.scalars.Scalar.{Scalar}
 use Rattle.wb_model.specs.declared.refusals.ModelRefusal.{ModelRefusal}
 use Rattle.wb_model.specs.declared.refusals.ModelRefusal.TheVariants.{UnknownObject, KindMismatch, UpperBound}
-use Rattle.wb_model.specs.Contents.{Contents, slot}
-use Rattle.wb_model.specs.Cells.{is_plain}
-use Rattle.wb_model.specs.Valid.{is_many, room, is_of_class, is_of_feature, IsValid}
-use Rattle.wb_model.specs.Edits.{Link, link, relink, both_ends, change, is_at, same_link, stands, gives_way, link_up, unlink, emptied, first_refusal, unless, is_live, is_known_value, is_full, is_plain_link, is_plain_feature, finds_no_room, refusal_of_link, refusal_of_take, refusal_of_unset, set, add, take_out, unset}
+use Rattle.wb_store.specs.Contents.{Contents, slot}
+use Rattle.wb_store.specs.Cells.{is_plain}
+use Rattle.wb_store.specs.Features.{is_many}
+use Rattle.wb_validity.specs.Valid.{room, is_of_class, is_of_feature, IsValid}
+use Rattle.wb_store.specs.Relinking.{Link, link, relink, both_ends, change, is_at, same_link, stands, gives_way}
+use Rattle.wb_model.specs.Edits.{link_up, unlink, emptied, first_refusal, unless, is_live, is_known_value, is_full, is_plain_link, is_plain_feature, finds_no_room, refusal_of_link, refusal_of_take, refusal_of_unset, set, add, take_out, unset}
 use Rattle.wb_model.proofs.Changed.{stay_at, IsKnown, fits-none, fits-one, sound-relink, contains-plain, housed-same}
 use Rattle.wb_model.proofs.Ends.{Opposed, plain-back, In-other_end, In-both_ends, ends-this}
-use Rattle.wb_model.proofs.Filtered.{filter-few, filter-none}
-use Rattle.wb_model.proofs.LinkLemmas.{any_found, to_false}
-use Rattle.wb_model.proofs.Members.{In, any_In}
-use Rattle.wb_model.proofs.Members.In.{here, there}
-use Rattle.wb_model.proofs.Relinked.{is_at-link, is_at-itself, kind-relink, roots-relink}
+use Rattle.wb_store.proofs.Filtered.{filter-few, filter-none}
+use Rattle.wb_validity.proofs.LinkLemmas.{any_found, to_false}
+use Rattle.wb_store.proofs.Members.{In, any_In}
+use Rattle.wb_store.proofs.Members.In.{here, there}
+use Rattle.wb_store.proofs.Relinked.{is_at-link, is_at-itself, kind-relink, roots-relink}
 use Rattle.wb_model.proofs.Sound.{absent, Sound, Housed, sound-from, housed-from, valid-from}
 
 -- ---- accepted edits

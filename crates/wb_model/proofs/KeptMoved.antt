@@ -4,30 +4,32 @@ use Rattle.std.proofs.lemmas.Bool.{and_parts, and_from, false≢true, not-false,
 use Rattle.std.specs.Prelude.{IsSome, Ok}
 use Rattle.std.specs.Option.{option_map_or}
 use Rattle.std.specs.List.{list_any, flat_map}
-use Rattle.wb_metamodel.specs.declared.features.Feature.{Feature}
+use Rattle.wb_ecore.specs.declared.features.Feature.{Feature}
 use Rattle.wb_metamodel.specs.Metamodel.{Metamodel}
 use Rattle.wb_metamodel.specs.WellFormed.{WellFormed}
-use Rattle.wb_model.specs.declared.scalars.Scalar.{Scalar}
-use Rattle.wb_model.specs.declared.scalars.Scalar.TheVariants.{Int, Bool as Boolean, Text, Literal, Object}
+use Rattle.wb_store.specs.declared.scalars.Scalar.{Scalar}
+use Rattle.wb_store.specs.declared.scalars.Scalar.TheVariants.{Int, Bool as Boolean, Text, Literal, Object}
 use Rattle.wb_model.specs.declared.refusals.ModelRefusal.TheVariants.{UnknownObject, KindMismatch, UpperBound, ContainmentCycle}
-use Rattle.wb_model.specs.Scalars.{same}
-use Rattle.wb_model.specs.ScalarLaws.{same_decides}
-use Rattle.wb_model.specs.Contents.{Contents, kind, slot, is_containment, contains}
-use Rattle.wb_model.specs.Cells.{tree}
-use Rattle.wb_model.specs.Valid.{room, opposite, is_instance, is_of_kind, is_of_feature, IsValid}
-use Rattle.wb_model.specs.Edits.{Link, link, relink, both_ends, change, leads_to, without_root, moved, stands, is_among, is_live, is_full, may_contain, conforms_as, refusal_of_move, move_to}
+use Rattle.wb_store.specs.Scalars.{same}
+use Rattle.wb_store.specs.ScalarLaws.{same_decides}
+use Rattle.wb_store.specs.Contents.{Contents, kind, slot, is_containment, contains}
+use Rattle.wb_store.specs.Cells.{tree}
+use Rattle.wb_store.specs.Features.{opposite}
+use Rattle.wb_validity.specs.Valid.{room, is_instance, is_of_kind, is_of_feature, IsValid}
+use Rattle.wb_store.specs.Relinking.{Link, link, relink, both_ends, change, leads_to, is_among, stands, without_root}
+use Rattle.wb_model.specs.Edits.{moved, is_live, is_full, may_contain, conforms_as, refusal_of_move, move_to}
 use Rattle.wb_model.proofs.Changed.{stay_at, IsKnown, fits-one, sound-relink, relink-Stands, relink-stays, relink-comes}
 use Rattle.wb_model.proofs.Ends.{opposites, opposite-back, containment-one, Opposed, ends-this, ends-that, ends-cases}
 use Rattle.wb_model.proofs.FewerRoots.{among-filter, filter-among, once-filter}
-use Rattle.wb_model.proofs.Filtered.{filter-few, filter-none}
+use Rattle.wb_store.proofs.Filtered.{filter-few, filter-none}
 use Rattle.wb_model.proofs.KeptCreated.{MayHold, may-hold, held-of_feature, same-object, In-ends}
 use Rattle.wb_model.proofs.KeptLinks.{and-true, not_refused, accepted, sound, housed, valid, one-space}
-use Rattle.wb_model.proofs.LinkLemmas.{to_false}
+use Rattle.wb_validity.proofs.LinkLemmas.{to_false}
 use Rattle.wb_model.proofs.Live.{kind-at}
-use Rattle.wb_model.proofs.Members.{In}
-use Rattle.wb_model.proofs.Members.In.{here}
+use Rattle.wb_store.proofs.Members.{In}
+use Rattle.wb_store.proofs.Members.In.{here}
 use Rattle.wb_model.proofs.Rehoused.{IsRehoused, housed-rehoused}
-use Rattle.wb_model.proofs.Relinked.{kind-relink}
+use Rattle.wb_store.proofs.Relinked.{kind-relink}
 use Rattle.wb_model.proofs.Sound.{absent, contains-parts, contains-from, Sound, Housed}
 use Rattle.wb_model.proofs.TreesWithin.{within-tree, In-among}
 

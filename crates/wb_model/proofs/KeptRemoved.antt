@@ -1,34 +1,33 @@
 -- A removal keeps a model valid.
-use Rattle.std.proofs.Common.{◌≡◌, ℕ, ◌+◌, ◌≤◌, suc, Bool, true, false, not, ◌||◌, List, [], ◌∷◌, length, Some, None, refl, sym, ap, subst, ◌∙◌, cond, arith, inl, ⊎_elim, append-nil}
+use Rattle.std.proofs.Common.{◌≡◌, ℕ, ◌+◌, ◌≤◌, suc, Bool, true, false, not, List, [], ◌∷◌, length, Some, None, refl, sym, ap, subst, ◌∙◌, cond, arith, inl, ⊎_elim}
 use Rattle.std.proofs.lemmas.Bool.{false≢true, not-true, not_from_false, or_left, or_right, or_cases, or_parts, cases_Bool}
 use Rattle.std.proofs.lemmas.Cmp.{nat_cmp_total}
 use Rattle.std.proofs.lemmas.Option.{none-some}
 use Rattle.std.specs.Prelude.{filter, IsSome, Ok}
 use Rattle.std.specs.Ordering.{nat_cmp}
-use Rattle.std.specs.FinMap.{entries, get-entries, len, len-empty, len-insert, len-entries, contains_key, from_entries, get-from_entries, nat_cmp-IsAntisymmetric}
-use Rattle.std.specs.FinMap.Entries.{find-where_key}
+use Rattle.std.specs.FinMap.{entries, len, len-empty, len-insert, len-entries, contains_key, from_entries}
 use Rattle.wb_metamodel.specs.Metamodel.{Metamodel}
 use Rattle.wb_metamodel.specs.WellFormed.{WellFormed}
-use Rattle.wb_model.specs.declared.scalars.Scalar.TheVariants.{Object}
+use Rattle.wb_store.specs.declared.scalars.Scalar.TheVariants.{Object}
 use Rattle.wb_model.specs.declared.refusals.ModelRefusal.TheVariants.{UnknownObject}
-use Rattle.wb_model.specs.Scalars.{same}
-use Rattle.wb_model.specs.ScalarLaws.{same_decides}
-use Rattle.wb_model.specs.Contents.{Contents, kind, slot, contains}
-use Rattle.wb_model.specs.Cells.{tree}
-use Rattle.wb_model.specs.Valid.{is_of_class, is_of_feature, Within, RootsAreUncontained, IsValid}
-use Rattle.wb_model.specs.Valid.Within.{directly, through}
-use Rattle.wb_model.specs.Edits.{Link, link, relink, touches, is_among, is_value_among, is_live, without, removed, remove}
+use Rattle.wb_store.specs.Scalars.{same}
+use Rattle.wb_store.specs.ScalarLaws.{same_decides}
+use Rattle.wb_store.specs.Contents.{Contents, kind, contains}
+use Rattle.wb_store.specs.Cells.{tree}
+use Rattle.wb_validity.specs.Valid.{is_of_class, is_of_feature, Within, RootsAreUncontained, IsValid}
+use Rattle.wb_validity.specs.Valid.Within.{directly, through}
+use Rattle.wb_store.specs.Relinking.{Link, link, relink, is_among, is_value_among, touches, without}
+use Rattle.wb_model.specs.Edits.{is_live, removed, remove}
 use Rattle.wb_model.proofs.Changed.{Fits, sound-relink, relink-Stands, relink-stays, within-less}
 use Rattle.wb_model.proofs.Ends.{Opposed}
 use Rattle.wb_model.proofs.FewerRoots.{among-filter, filter-among, once-filter}
-use Rattle.wb_model.proofs.Filtered.{In-cons, filter-few, filter-none}
+use Rattle.wb_store.proofs.Filtered.{In-cons, filter-few}
 use Rattle.wb_model.proofs.KeptCreated.{same-object}
 use Rattle.wb_model.proofs.KeptLinks.{accepted, sound, housed, valid}
-use Rattle.wb_model.proofs.LinkLemmas.{any_found, to_false}
+use Rattle.wb_validity.proofs.LinkLemmas.{any_found, to_false}
 use Rattle.wb_model.proofs.Live.{kind-some, some-kind, contained-live, of_class-kept, of_feature-kept}
-use Rattle.wb_model.proofs.Members.{In, any_In}
-use Rattle.wb_model.proofs.Members.In.{there}
-use Rattle.wb_model.proofs.Relinked.{slot-relink}
+use Rattle.wb_store.proofs.Members.{In, any_In}
+use Rattle.wb_store.proofs.Members.In.{there}
 use Rattle.wb_model.proofs.Sound.{Stands, contains-parts, contains-from, Sound, Housed}
 use Rattle.wb_model.proofs.TreesWithin.{tree-within, within-tree, among-In, In-among}
 
@@ -69,31 +68,16 @@ module _ (m : Contents) (dead : List ℕ) where
   abbrev stay_entries : List (ℕ × ℕ)
   stay_entries = filter (λ (e : ℕ × ℕ). not (is_among dead e.0)) (entries m.kinds)
 
-  pub kind-without : (x : ℕ) → kind left x ≡ cond (not (is_among dead x)) (kind m x) None
-  kind-without x =
-      get-from_entries nat_cmp_total stay_entries x
-      ∙ find-where_key nat_cmp (λ x. not (is_among dead x)) x (λ y e. ap (λ z. not (is_among dead z)) (sym (nat_cmp-IsAntisymmetric x y e))) (entries m.kinds)
-      ∙ ap (λ r. cond (not (is_among dead x)) r None) (sym (get-entries m.kinds x))
-
   pub kind-stays : (x : ℕ) → is_among dead x ≡ false → kind left x ≡ kind m x
-  kind-stays x h = kind-without x ∙ ap (λ b. cond (not b) (kind m x) None) h
+  kind-stays x h = kind-without m dead x ∙ ap (λ b. cond (not b) (kind m x) None) h
 
   -- what is live was live, and does not die
   kind-was : (x c : ℕ) → kind left x ≡ Some c → (kind m x ≡ Some c) × (is_among dead x ≡ false)
   kind-was x c e =
       ⊎_elim
-      (λ t. absurd (none-some c (sym (kind-without x ∙ ap (λ b. cond (not b) (kind m x) None) t) ∙ e)))
+      (λ t. absurd (none-some c (sym (kind-without m dead x ∙ ap (λ b. cond (not b) (kind m x) None) t) ∙ e)))
       (λ n. (sym (kind-stays x n) ∙ e, n))
       (cases_Bool (is_among dead x))
-
-  pub slot-without : (o f : ℕ) → slot left o f ≡ cond (is_among dead o) [] (filter (λ v. not (is_value_among dead v)) (slot m o f))
-  unfolding relink
-  slot-without o f =
-      slot-relink (touches dead) [] m o f ∙ append-nil (filter (λ v. not (is_among dead o || is_value_among dead v)) (slot m o f))
-      ∙ elim (is_among dead o) as (λ b. filter (λ v. not (b || is_value_among dead v)) (slot m o f) ≡ cond b [] (filter (λ v. not (is_value_among dead v)) (slot m o f))) [
-        | true ↦ filter-none (λ v. false) (slot m o f) (λ v i. refl)
-        | false ↦ refl
-      ]
 
   few-left : len m.kinds ≤ 20000 → len left.kinds ≤ 20000
   few-left h =

@@ -5,15 +5,15 @@ use Rattle.std.specs.Prelude.{IsSome}
 use Rattle.std.specs.Option.{option_map_or}
 use Rattle.std.specs.Ordering.{nat_cmp}
 use Rattle.std.specs.FinMap.{FinMap}
-use Rattle.wb_metamodel.specs.declared.features.Feature.{Feature}
-use Rattle.wb_metamodel.specs.declared.features.Kind.{Kind}
-use Rattle.wb_metamodel.specs.declared.features.Kind.TheVariants.{Int as IntKind, Bool as BoolKind, Text as TextKind, Enum, Reference}
+use Rattle.wb_ecore.specs.declared.features.Feature.{Feature}
+use Rattle.wb_ecore.specs.declared.features.Kind.{Kind}
+use Rattle.wb_ecore.specs.declared.features.Kind.TheVariants.{Int as IntKind, Bool as BoolKind, Text as TextKind, Enum, Reference}
 use Rattle.wb_metamodel.specs.Metamodel.{conforms, feature_at}
-use Rattle.wb_model.specs.declared.scalars.Scalar.{Scalar}
-use Rattle.wb_model.specs.declared.scalars.Scalar.TheVariants.{Int, Bool as Boolean, Text, Literal, Object}
-use Rattle.wb_model.specs.Contents.{Contents, Filled, slot_cmp, kind, contains}
-use Rattle.wb_model.specs.Edits.{Link, link}
-use Rattle.wb_model.specs.Valid.{has_feature, is_of_class, conforms_to, is_of_kind, is_of_feature}
+use Rattle.wb_store.specs.declared.scalars.Scalar.{Scalar}
+use Rattle.wb_store.specs.declared.scalars.Scalar.TheVariants.{Int, Bool as Boolean, Text, Literal, Object}
+use Rattle.wb_store.specs.Contents.{Contents, Filled, slot_cmp, kind, contains}
+use Rattle.wb_store.specs.Relinking.{Link, link}
+use Rattle.wb_validity.specs.Valid.{has_feature, is_of_class, conforms_to, is_of_kind, is_of_feature}
 use Rattle.wb_model.proofs.Sound.{Stands, contains-parts, Sound}
 
 pub kind-at : (m : Contents) (o : ℕ) (p : ℕ → Bool) → option_map_or p (kind m o) false ≡ true → (c : ℕ) × (kind m o ≡ Some c) × (p c ≡ true)

@@ -11,34 +11,35 @@ use Rattle.std.specs.List.{find, flat_map, list_all, list_any}
 use Rattle.std.specs.List.Sorted.{IsPermutation}
 use Rattle.std.specs.FinMap.{len, entries, from_entries, contains_key, get-entries, len-empty, len-insert, nat_cmp-IsAntisymmetric}
 use Rattle.wb_metamodel.specs.Metamodel.{Metamodel}
-use Rattle.wb_model.specs.declared.conditions.Condition.{Condition}
-use Rattle.wb_model.specs.declared.conditions.Condition.TheVariants.{OfClass, HasRoom, OfKinds, Differ, HeldBack}
-use Rattle.wb_model.specs.declared.flaws.Flaw.{Flaw}
-use Rattle.wb_model.specs.declared.flaws.Flaw.TheVariants.{At, Whole, NoMemory}
-use Rattle.wb_model.specs.declared.parts.Part.{Part}
-use Rattle.wb_model.specs.declared.records.Record.{Record}
-use Rattle.wb_model.specs.Broken.{Breach, shown_by, unless, least, slots_at, breaks, miswritten, is_misnumbered, is_crowded, is_held_twice, broken, broken_number, broken_first, broken_values, broken_containment, broken_holding}
-use Rattle.wb_model.specs.Conditions.{meets}
-use Rattle.wb_model.specs.Contents.{Contents, Filled, members, kind}
-use Rattle.wb_model.specs.Flaws.{Finds, Names, refusal_of}
-use Rattle.wb_model.specs.Links.{Kept}
-use Rattle.wb_model.specs.Parts.{made_of, record_of, is_listed, MakeModel, Refutes}
-use Rattle.wb_model.specs.Places.{numbered}
-use Rattle.wb_model.specs.Records.{id_of, kind_entry, slot_entries}
-use Rattle.wb_model.specs.Valid.{every_slot, is_abstract, numbers_are_spent, classes_are_concrete, AreContainedOnce, Within, NoneIsWithinItself, RootsAreUncontained, IsValid}
-use Rattle.wb_model.specs.ValidTest.{holders, is_within}
-use Rattle.wb_model.proofs.Breaches.{slots_meet_kept}
-use Rattle.wb_model.proofs.Findings.{nothing_shown}
-use Rattle.wb_model.proofs.Found.{is_itself}
-use Rattle.wb_model.proofs.LinkLemmas.{container_place, live_at, at_most_one as one_at_most}
-use Rattle.wb_model.proofs.Maps.{kind-numbered}
-use Rattle.wb_model.proofs.Members.{In, In-all, In-map, map-In, all_In, any_In, find-In, flat_map-In, Contains-In}
-use Rattle.wb_model.proofs.Members.In.{here, there}
+use Rattle.wb_validity.specs.declared.conditions.Condition.{Condition}
+use Rattle.wb_validity.specs.declared.conditions.Condition.TheVariants.{OfClass, HasRoom, OfKinds, Differ, HeldBack}
+use Rattle.wb_validity.specs.declared.flaws.Flaw.{Flaw}
+use Rattle.wb_validity.specs.declared.flaws.Flaw.TheVariants.{At, Whole, NoMemory}
+use Rattle.wb_store.specs.declared.parts.Part.{Part}
+use Rattle.wb_store.specs.declared.records.Record.{Record}
+use Rattle.wb_validity.specs.Broken.{Breach, shown_by, unless, least, slots_at, breaks, miswritten, is_misnumbered, is_crowded, is_held_twice, broken, broken_number, broken_first, broken_values, broken_containment, broken_holding}
+use Rattle.wb_validity.specs.Conditions.{meets}
+use Rattle.wb_store.specs.Contents.{Contents, Filled, members, kind}
+use Rattle.wb_model.specs.Building.{Names, refusal_of, MakeModel, Refutes}
+use Rattle.wb_validity.specs.Flaws.{Finds}
+use Rattle.wb_store.specs.Links.{Kept}
+use Rattle.wb_store.specs.Parts.{made_of, record_of, is_listed}
+use Rattle.wb_store.specs.Places.{numbered}
+use Rattle.wb_store.specs.Records.{id_of, kind_entry, slot_entries}
+use Rattle.wb_validity.specs.Valid.{every_slot, is_abstract, numbers_are_spent, classes_are_concrete, AreContainedOnce, Within, NoneIsWithinItself, RootsAreUncontained, IsValid}
+use Rattle.wb_validity.specs.ValidTest.{holders, is_within}
+use Rattle.wb_validity.proofs.Breaches.{slots_meet_kept}
+use Rattle.wb_validity.proofs.Findings.{nothing_shown}
+use Rattle.wb_store.proofs.Found.{is_itself}
+use Rattle.wb_validity.proofs.LinkLemmas.{container_place, live_at, at_most_one as one_at_most}
+use Rattle.wb_store.proofs.Maps.{kind-numbered}
+use Rattle.wb_store.proofs.Members.{In, In-all, In-map, map-In, all_In, any_In, find-In, flat_map-In, Contains-In}
+use Rattle.wb_store.proofs.Members.In.{here, there}
 use Rattle.wb_model.proofs.Permuted.{broken-permuted}
-use Rattle.wb_model.proofs.RingLemmas.{first_step}
-use Rattle.wb_model.proofs.Shown.{shown-kinds, shown-slots}
-use Rattle.wb_model.proofs.Trees.{filter-In}
-use Rattle.wb_model.proofs.ValidTest.{contained_once-decided, is_within-decides, roots-decided}
+use Rattle.wb_validity.proofs.RingLemmas.{first_step}
+use Rattle.wb_store.proofs.Shown.{shown-kinds, shown-slots}
+use Rattle.wb_validity.proofs.Trees.{filter-In}
+use Rattle.wb_validity.proofs.ValidTest.{contained_once-decided, is_within-decides, roots-decided}
 
 one_more : (b : Bool) (n k : ℕ) → n ≤ k → cond b n (n + 1) ≤ k + 1
 one_more true n k h = omega arith

@@ -6,23 +6,24 @@ use Rattle.std.specs.Prelude.{filter, find}
 use Rattle.std.specs.Option.{option_map, option_map_or}
 use Rattle.std.specs.List.{list_any, flat_map}
 use Rattle.std.specs.FinMap.{entries, get}
-use Rattle.wb_model.specs.declared.scalars.Scalar.TheVariants.{Object}
-use Rattle.wb_model.specs.Scalars.{same}
-use Rattle.wb_model.specs.ScalarLaws.{same_decides}
-use Rattle.wb_model.specs.Contents.{Contents, Filled, members, slot, has_object, is_containment, contains}
-use Rattle.wb_model.specs.Cells.{holds, holder}
-use Rattle.wb_model.specs.Valid.{is_root}
-use Rattle.wb_model.specs.Edits.{Link, link, relink, both_ends, change, leads_to, same_link, unlink, without_root}
+use Rattle.wb_store.specs.declared.scalars.Scalar.TheVariants.{Object}
+use Rattle.wb_store.specs.Scalars.{same}
+use Rattle.wb_store.specs.ScalarLaws.{same_decides}
+use Rattle.wb_store.specs.Contents.{Contents, Filled, members, slot, has_object, is_containment, contains}
+use Rattle.wb_store.specs.Cells.{holds, holder}
+use Rattle.wb_validity.specs.Valid.{is_root}
+use Rattle.wb_store.specs.Relinking.{Link, link, relink, both_ends, change, same_link, leads_to, without_root}
+use Rattle.wb_model.specs.Edits.{unlink}
 use Rattle.wb_model.proofs.Changed.{both-same}
 use Rattle.wb_model.proofs.EditSteps.{relink-relink, relink-agree, same_link-is, same_link-itself}
 use Rattle.wb_model.proofs.Ends.{ends-this, ends-that, ends-cases}
-use Rattle.wb_model.proofs.Filtered.{filter-all}
-use Rattle.wb_model.proofs.LinkLemmas.{to_false}
+use Rattle.wb_store.proofs.Filtered.{filter-all}
+use Rattle.wb_validity.proofs.LinkLemmas.{to_false}
 use Rattle.wb_model.proofs.Live.{contained-live}
-use Rattle.wb_model.proofs.Members.{In, any_In}
-use Rattle.wb_model.proofs.Members.In.{here, there}
+use Rattle.wb_store.proofs.Members.{In, any_In}
+use Rattle.wb_store.proofs.Members.In.{here, there}
 use Rattle.wb_model.proofs.Sound.{Stands, contains-parts, contains-from, Sound, Housed, entry-In, In-entry}
-use Rattle.wb_model.proofs.Relinked.{none-any}
+use Rattle.wb_store.proofs.Relinked.{none-any}
 
 -- ---- the container of an object
 

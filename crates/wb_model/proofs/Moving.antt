@@ -5,19 +5,20 @@ use Rattle.std.proofs.lemmas.Option.{slice_get_within}
 use Rattle.std.specs.Option.{option_map_or}
 use Rattle.std.specs.List.{list_any, flat_map}
 use Rattle.wb_metamodel.specs.Metamodel.{Metamodel, feature_at}
-use Rattle.wb_metamodel.specs.declared.features.Feature.{Feature}
+use Rattle.wb_ecore.specs.declared.features.Feature.{Feature}
 use Rattle.wb_metamodel.specs.WellFormed.{WellFormed}
-use Rattle.wb_model.specs.declared.scalars.Scalar.TheVariants.{Object}
-use Rattle.wb_model.specs.Contents.{Contents, contains, is_containment}
-use Rattle.wb_model.specs.Valid.{IsValid}
-use Rattle.wb_model.specs.Edits.{Link, link, relink, both_ends, change, same_link, unlink, leads_to, stands, without_root, moved}
-use Rattle.wb_model.specs.LinkSteps.{with_ends}
+use Rattle.wb_store.specs.declared.scalars.Scalar.TheVariants.{Object}
+use Rattle.wb_store.specs.Contents.{Contents, contains, is_containment}
+use Rattle.wb_validity.specs.Valid.{IsValid}
+use Rattle.wb_store.specs.Relinking.{Link, link, relink, both_ends, change, same_link, leads_to, stands, without_root}
+use Rattle.wb_model.specs.Edits.{unlink, moved}
+use Rattle.wb_store.specs.LinkSteps.{with_ends}
 use Rattle.wb_model.proofs.Comings.{come_then, keep_given}
 use Rattle.wb_model.proofs.EditSteps.{relink-relink, relink-agree}
 use Rattle.wb_model.proofs.MoveSteps.{moved-held, moved-root}
 use Rattle.wb_model.proofs.Sound.{Stands, absent, contains-parts}
 use Rattle.wb_model.proofs.KeptLinks.{housed, sound}
-use Rattle.wb_model.proofs.Relinked.{metamodel-relink, none-any}
+use Rattle.wb_store.proofs.Relinked.{metamodel-relink, none-any}
 
 -- the feature of a containment slot is one of the metamodel
 pub containment_known : (metamodel : Metamodel) (f : ℕ) → is_containment metamodel f ≡ true → f < length metamodel.features

@@ -2,10 +2,10 @@
 use Rattle.std.proofs.Common.{◌≡◌, ℕ, List, drop}
 use Rattle.std.specs.List.{flat_map}
 use Rattle.wb_metamodel.specs.Metamodel.{Metamodel}
-use Rattle.wb_model.specs.declared.scalars.Scalar.{Scalar}
-use Rattle.wb_model.specs.Contents.{Contents}
-use Rattle.wb_model.specs.Edits.{Link, link, other_end}
-use Rattle.wb_model.specs.LinkSteps.{each_left}
+use Rattle.wb_store.specs.declared.scalars.Scalar.{Scalar}
+use Rattle.wb_store.specs.Contents.{Contents}
+use Rattle.wb_store.specs.Relinking.{Link, link, other_end}
+use Rattle.wb_store.specs.LinkSteps.{each_left}
 
 -- the links from the other ends of the values of a slot
 abbrev pub ends_of : Metamodel → ℕ → ℕ → List Scalar → List Link

@@ -6,19 +6,20 @@ use Rattle.std.specs.Prelude.{filter, Ok}
 use Rattle.std.specs.List.{list_any, flat_map}
 use Rattle.wb_metamodel.specs.Metamodel.{Metamodel}
 use Rattle.wb_metamodel.specs.WellFormed.{WellFormed}
-use Rattle.wb_model.specs.declared.scalars.Scalar.{Scalar}
-use Rattle.wb_model.specs.Scalars.{same}
-use Rattle.wb_model.specs.Contents.{Contents, kind, slot}
-use Rattle.wb_model.specs.Valid.{opposite, is_many}
-use Rattle.wb_model.specs.Edits.{Link, link, relink, both_ends, change, is_at, same_link, gives_way, stands, link_up, unlink, emptied, refusal_of_link, refusal_of_take, refusal_of_unset, set, add, take_out, unset}
+use Rattle.wb_store.specs.declared.scalars.Scalar.{Scalar}
+use Rattle.wb_store.specs.Scalars.{same}
+use Rattle.wb_store.specs.Contents.{Contents, kind, slot}
+use Rattle.wb_store.specs.Features.{is_many, opposite}
+use Rattle.wb_store.specs.Relinking.{Link, link, relink, both_ends, change, is_at, same_link, stands, gives_way}
+use Rattle.wb_model.specs.Edits.{link_up, unlink, emptied, refusal_of_link, refusal_of_take, refusal_of_unset, set, add, take_out, unset}
 use Rattle.wb_model.specs.EditLaws.{ChangesOnly}
 use Rattle.wb_model.proofs.Changed.{alone-ends}
 use Rattle.wb_model.proofs.Ends.{opposite-back, In-both_ends, ends-cases}
-use Rattle.wb_model.proofs.Filtered.{filter-all}
+use Rattle.wb_store.proofs.Filtered.{filter-all}
 use Rattle.wb_model.proofs.KeptCreated.{In-ends}
 use Rattle.wb_model.proofs.KeptLinks.{accepted}
-use Rattle.wb_model.proofs.LinkLemmas.{any_found, to_false}
-use Rattle.wb_model.proofs.Relinked.{values_at, is_at-link, slot-relink, kind-relink, roots-relink}
+use Rattle.wb_validity.proofs.LinkLemmas.{any_found, to_false}
+use Rattle.wb_store.proofs.Relinked.{values_at, is_at-link, slot-relink, kind-relink, roots-relink}
 
 -- ---- other features
 

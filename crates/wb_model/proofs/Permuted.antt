@@ -5,16 +5,17 @@ use Rattle.std.specs.Prelude.{filter}
 use Rattle.std.specs.FinMap.{entries, from_entries}
 use Rattle.std.specs.List.Sorted.{IsPermutation}
 use Rattle.std.specs.Option.{option_or}
-use Rattle.wb_model.specs.declared.conditions.Condition.TheVariants.{OfClass, HasRoom}
-use Rattle.wb_model.specs.declared.scalars.Scalar.{Scalar}
-use Rattle.wb_model.specs.declared.scalars.Scalar.TheVariants.{Object}
-use Rattle.wb_model.specs.Broken.{shown_by, least, breaks, broken, broken_first, broken_number, broken_values, broken_containment}
-use Rattle.wb_model.specs.Cells.{tree}
-use Rattle.wb_model.specs.Contents.{Contents}
+use Rattle.wb_validity.specs.declared.conditions.Condition.TheVariants.{OfClass, HasRoom}
+use Rattle.wb_store.specs.declared.scalars.Scalar.{Scalar}
+use Rattle.wb_store.specs.declared.scalars.Scalar.TheVariants.{Object}
+use Rattle.wb_validity.specs.Broken.{shown_by, least, breaks, broken, broken_first, broken_number, broken_values, broken_containment}
+use Rattle.wb_store.specs.Cells.{tree}
+use Rattle.wb_store.specs.Contents.{Contents}
 use Rattle.wb_model.specs.declared.refusals.ModelRefusal.TheVariants.{UnknownObject}
-use Rattle.wb_model.specs.Edits.{Link, relink, is_among, is_value_among, without, removed, unless, is_live, remove}
-use Rattle.wb_model.specs.Scalars.{same}
-use Rattle.wb_model.specs.Valid.{is_abstract}
+use Rattle.wb_store.specs.Relinking.{Link, relink, is_among, is_value_among, without}
+use Rattle.wb_model.specs.Edits.{removed, unless, is_live, remove}
+use Rattle.wb_store.specs.Scalars.{same}
+use Rattle.wb_validity.specs.Valid.{is_abstract}
 
 module _ (xs ys : List ℕ) (permuted : IsPermutation xs ys) (m : Contents) where
   among : (o : ℕ) → is_among xs o ≡ is_among ys o

@@ -4,22 +4,23 @@ use Rattle.std.proofs.lemmas.Bool.{and_parts, false≢true, not_from_false}
 use Rattle.std.specs.Prelude.{Ok}
 use Rattle.std.specs.List.{list_any, flat_map}
 use Rattle.wb_metamodel.specs.WellFormed.{WellFormed}
-use Rattle.wb_model.specs.declared.scalars.Scalar.{Scalar}
-use Rattle.wb_model.specs.declared.scalars.Scalar.TheVariants.{Object}
-use Rattle.wb_model.specs.declared.scalars.Place.{Place}
-use Rattle.wb_model.specs.declared.scalars.Place.TheVariants.{Root, In as Inside}
-use Rattle.wb_model.specs.Scalars.{same}
-use Rattle.wb_model.specs.Contents.{Contents, kind, slot, is_containment}
-use Rattle.wb_model.specs.Cells.{is_plain}
-use Rattle.wb_model.specs.Edits.{Link, link, relink, both_ends, change, leads_to, stands, with_object, without_root, created, moved, refusal_of_create, refusal_of_move, create, move_to}
+use Rattle.wb_store.specs.declared.scalars.Scalar.{Scalar}
+use Rattle.wb_store.specs.declared.scalars.Scalar.TheVariants.{Object}
+use Rattle.wb_store.specs.declared.scalars.Place.{Place}
+use Rattle.wb_store.specs.declared.scalars.Place.TheVariants.{Root, In as Inside}
+use Rattle.wb_store.specs.Scalars.{same}
+use Rattle.wb_store.specs.Contents.{Contents, kind, slot, is_containment}
+use Rattle.wb_store.specs.Cells.{is_plain}
+use Rattle.wb_store.specs.Relinking.{Link, link, relink, both_ends, change, leads_to, stands, without_root}
+use Rattle.wb_model.specs.Edits.{with_object, created, moved, refusal_of_create, refusal_of_move, create, move_to}
 use Rattle.wb_model.proofs.Changed.{alone-ends}
 use Rattle.wb_model.proofs.Ends.{plain-parts, plain-other, opposite-back, ends-cases}
-use Rattle.wb_model.proofs.Filtered.{filter-all}
+use Rattle.wb_store.proofs.Filtered.{filter-all}
 use Rattle.wb_model.proofs.KeptCreated.{In-ends, may-place, may-hold, kind-other}
 use Rattle.wb_model.proofs.KeptLinks.{accepted}
 use Rattle.wb_model.proofs.KeptMoved.{may-move, moves-into}
-use Rattle.wb_model.proofs.LinkLemmas.{to_false}
-use Rattle.wb_model.proofs.Relinked.{values_at, slot-relink, kind-relink, none-any}
+use Rattle.wb_validity.proofs.LinkLemmas.{to_false}
+use Rattle.wb_store.proofs.Relinked.{values_at, slot-relink, kind-relink, none-any}
 
 module _ (m : Contents) (well : WellFormed m.metamodel) (h : ℕ) (plain : is_plain m.metamodel h ≡ true) (q : ℕ) where
   -- with a containment link no link of a plain feature comes

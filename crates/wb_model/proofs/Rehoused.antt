@@ -2,10 +2,11 @@
 use Rattle.std.proofs.Common.{◌≡◌, ◌≢◌, ℕ, true, refl, sym, subst, ◌∙◌, ◌⊎◌, inl, inr, ⊎_elim}
 use Rattle.std.proofs.lemmas.Bool.{false≢true}
 use Rattle.std.specs.Prelude.{IsSome}
-use Rattle.wb_model.specs.Contents.{Contents, kind, contains}
-use Rattle.wb_model.specs.Valid.{AreContainedOnce, Within, NoneIsWithinItself, is_root, once, RootsAreUncontained}
-use Rattle.wb_model.specs.Valid.Within.{directly, through}
-use Rattle.wb_model.proofs.LinkLemmas.{to_false}
+use Rattle.wb_store.specs.Contents.{Contents, kind, contains}
+use Rattle.wb_store.specs.Places.{once}
+use Rattle.wb_validity.specs.Valid.{AreContainedOnce, Within, NoneIsWithinItself, is_root, RootsAreUncontained}
+use Rattle.wb_validity.specs.Valid.Within.{directly, through}
+use Rattle.wb_validity.proofs.LinkLemmas.{to_false}
 use Rattle.wb_model.proofs.Sound.{Housed}
 
 pub within-joined : (m : Contents) (a b c : ℕ) → Within m a b → Within m b c → Within m a c

@@ -8,19 +8,20 @@ use Rattle.std.specs.Option.{option_map_or}
 use Rattle.std.specs.List.{list_all}
 use Rattle.std.specs.FinMap.{FinMap, find, is_sorted, IsAntisymmetric, entries, entries_sorted, get, get-entries, len, nat_cmp-IsAntisymmetric}
 use Rattle.std.specs.FinMap.Entries.{below_all}
-use Rattle.wb_model.specs.declared.scalars.Scalar.{Scalar}
-use Rattle.wb_model.specs.declared.scalars.Scalar.TheVariants.{Int, Bool as Boolean, Text, Literal, Object}
-use Rattle.wb_model.specs.Scalars.{same}
-use Rattle.wb_model.specs.ScalarLaws.{same_decides}
-use Rattle.wb_model.specs.Contents.{Contents, Filled, members, kind, slot, has_object, is_containment, contains}
-use Rattle.wb_model.specs.Edits.{Link, link, stands}
-use Rattle.wb_model.specs.Valid.{every_object, every_slot, is_abstract, is_of_class, room, is_of_feature, differ, opposite, holds_back, is_held_back, AreContainedOnce, NoneIsWithinItself, RootsAreUncontained, Valid}
+use Rattle.wb_store.specs.declared.scalars.Scalar.{Scalar}
+use Rattle.wb_store.specs.declared.scalars.Scalar.TheVariants.{Int, Bool as Boolean, Text, Literal, Object}
+use Rattle.wb_store.specs.Scalars.{same}
+use Rattle.wb_store.specs.ScalarLaws.{same_decides}
+use Rattle.wb_store.specs.Contents.{Contents, Filled, members, kind, slot, has_object, is_containment, contains}
+use Rattle.wb_store.specs.Relinking.{Link, link, stands}
+use Rattle.wb_store.specs.Features.{opposite}
+use Rattle.wb_validity.specs.Valid.{every_object, every_slot, is_abstract, is_of_class, room, is_of_feature, differ, holds_back, is_held_back, AreContainedOnce, NoneIsWithinItself, RootsAreUncontained, Valid}
 use Rattle.wb_model.proofs.Ends.{Opposed}
-use Rattle.wb_model.proofs.LinkLemmas.{any_found}
-use Rattle.wb_model.proofs.Maps.{slot_cmp_total, slot_cmp-IsAntisymmetric}
-use Rattle.wb_model.proofs.Members.{In, all_In, In-all, any_In, find-In}
-use Rattle.wb_model.proofs.Members.In.{here, there}
-use Rattle.wb_model.proofs.Relinked.{true-of}
+use Rattle.wb_validity.proofs.LinkLemmas.{any_found}
+use Rattle.wb_store.proofs.Maps.{slot_cmp_total, slot_cmp-IsAntisymmetric}
+use Rattle.wb_store.proofs.Members.{In, all_In, In-all, any_In, find-In}
+use Rattle.wb_store.proofs.Members.In.{here, there}
+use Rattle.wb_store.proofs.Relinked.{true-of}
 
 -- ---- tests of the entries of a map
 

@@ -7,19 +7,19 @@ use Rattle.std.specs.Prelude.{filter, IsSome}
 use Rattle.std.specs.Option.{option_map_or}
 use Rattle.std.specs.FinMap.{entries, get-entries, len, len-entries, nat_cmp-IsAntisymmetric}
 use Rattle.wb_metamodel.specs.Metamodel.{features_of}
-use Rattle.wb_model.specs.declared.scalars.Scalar.{Scalar}
-use Rattle.wb_model.specs.declared.scalars.Scalar.TheVariants.{Int, Bool as Boolean, Text, Literal, Object}
-use Rattle.wb_model.specs.Contents.{Contents, kind, slot, is_containment, contains}
-use Rattle.wb_model.specs.Cells.{objects_in, features, content, tree_within, tree}
-use Rattle.wb_model.specs.Valid.{has_feature, is_of_class, Within, NoneIsWithinItself}
-use Rattle.wb_model.specs.Valid.Within.{directly, through}
-use Rattle.wb_model.specs.Edits.{link, is_among}
-use Rattle.wb_model.proofs.Filtered.{In-cons, filter-In, In-filter, filter-few}
-use Rattle.wb_model.proofs.Found.{is_itself}
-use Rattle.wb_model.proofs.LinkLemmas.{any_found}
+use Rattle.wb_store.specs.declared.scalars.Scalar.{Scalar}
+use Rattle.wb_store.specs.declared.scalars.Scalar.TheVariants.{Int, Bool as Boolean, Text, Literal, Object}
+use Rattle.wb_store.specs.Contents.{Contents, kind, slot, is_containment, contains}
+use Rattle.wb_store.specs.Cells.{objects_in, features, content, tree_within, tree}
+use Rattle.wb_validity.specs.Valid.{has_feature, is_of_class, Within, NoneIsWithinItself}
+use Rattle.wb_validity.specs.Valid.Within.{directly, through}
+use Rattle.wb_store.specs.Relinking.{link, is_among}
+use Rattle.wb_store.proofs.Filtered.{In-cons, filter-In, In-filter, filter-few}
+use Rattle.wb_store.proofs.Found.{is_itself}
+use Rattle.wb_validity.proofs.LinkLemmas.{any_found}
 use Rattle.wb_model.proofs.Live.{kind-at, kind-some, holder-live, contained-live}
-use Rattle.wb_model.proofs.Members.{In, In-flat_map, flat_map-In, In-map, any_In, find-In}
-use Rattle.wb_model.proofs.Members.In.{here, there}
+use Rattle.wb_store.proofs.Members.{In, In-flat_map, flat_map-In, In-map, any_In, find-In}
+use Rattle.wb_store.proofs.Members.In.{here, there}
 use Rattle.wb_model.proofs.Rehoused.{within-joined, within-first}
 use Rattle.wb_model.proofs.Sound.{contains-parts, contains-from, Sound}
 

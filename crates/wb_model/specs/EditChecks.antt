@@ -2,14 +2,15 @@
 use Rattle.std.specs.Prelude.{◌≡◌, ℕ, suc, ◌^◌, ◌<◌, Bool, not, ◌&&◌, nat_le, List, [], ◌∷◌, length, Option, Some, None, Result, Ok, Err}
 use Rattle.std.specs.FinMap.{len}
 use Rattle.wb_metamodel.specs.Metamodel.{Metamodel}
-use Rattle.wb_model.specs.declared.scalars.Scalar.TheVariants.{Object}
-use Rattle.wb_model.specs.declared.scalars.Place.{Place}
-use Rattle.wb_model.specs.declared.scalars.Place.TheVariants.{Root, In}
+use Rattle.wb_store.specs.declared.scalars.Scalar.TheVariants.{Object}
+use Rattle.wb_store.specs.declared.scalars.Place.{Place}
+use Rattle.wb_store.specs.declared.scalars.Place.TheVariants.{Root, In}
 use Rattle.wb_model.specs.declared.refusals.ModelRefusal.{ModelRefusal}
 use Rattle.wb_model.specs.declared.refusals.ModelRefusal.TheVariants.{UnknownObject, KindMismatch, UpperBound, AbstractClass, TooManyObjects, IdsSpent, NoMemory}
-use Rattle.wb_model.specs.Contents.{Contents}
-use Rattle.wb_model.specs.Valid.{is_abstract}
-use Rattle.wb_model.specs.Edits.{link, is_live, conforms_as, stands, is_full}
+use Rattle.wb_store.specs.Contents.{Contents}
+use Rattle.wb_validity.specs.Valid.{is_abstract}
+use Rattle.wb_store.specs.Relinking.{link, stands}
+use Rattle.wb_model.specs.Edits.{is_live, conforms_as, is_full}
 
 -- the first refusal that holds, none where the check passes; want of memory tells nothing
 abbrev pub Tells : {A : Type 0} → Result A ModelRefusal → Option ModelRefusal → Type 0

@@ -1,9 +1,10 @@
 -- What is true of every edit that is accepted.
 use Rattle.std.specs.Prelude.{◌≡◌, ◌≢◌, ℕ, suc, ◌≤◌, ◌⊎◌, Bool, false, List, [], ◌++◌, filter, length, IsSome, Some, None, Ok}
-use Rattle.wb_model.specs.declared.scalars.Scalar.{Scalar}
-use Rattle.wb_model.specs.declared.scalars.Place.{Place}
-use Rattle.wb_model.specs.Contents.{Contents, kind, slot, has_object}
-use Rattle.wb_model.specs.Valid.{is_root, opposite, Within}
+use Rattle.wb_store.specs.declared.scalars.Scalar.{Scalar}
+use Rattle.wb_store.specs.declared.scalars.Place.{Place}
+use Rattle.wb_store.specs.Contents.{Contents, kind, slot, has_object}
+use Rattle.wb_store.specs.Features.{opposite}
+use Rattle.wb_validity.specs.Valid.{is_root, Within}
 use Rattle.wb_model.specs.Edits.{set, add, take_out, unset, move_to, remove, create}
 
 -- the second model is what an accepted edit makes of the first

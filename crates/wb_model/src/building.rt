@@ -1,19 +1,34 @@
 ghost use Rattle.std.specs.Prelude.{◌≡◌, true, IfOk, OnOk, IfErr};
 ghost use Rattle.std.specs.List.{list_all};
-ghost use Rattle.wb_model.specs.Broken.{broken, miswritten};
-ghost use Rattle.wb_model.specs.Flaws.{Names, refusal_of};
-ghost use Rattle.wb_model.specs.Parts.{AreParts, MakeModel, Refutes, made_of, is_listed_slot, slot_of, are_known};
-ghost use Rattle.wb_model.specs.Records.{is_known_slot};
+ghost use Rattle.wb_validity.specs.Broken.{broken, miswritten};
+ghost use Rattle.wb_model.specs.Building.{Names, refusal_of, MakeModel, Refutes};
+ghost use Rattle.wb_store.specs.Parts.{AreParts, made_of, is_listed_slot, slot_of, are_known};
+ghost use Rattle.wb_store.specs.Records.{is_known_slot};
 
-use crate::checks::check_all;
-use crate::flaws::Flaw;
 use crate::model::Model;
-use crate::object_sets::ObjectSet;
-use crate::parts::{BuildRefusal, Part, SlotPart};
-use crate::store::Store;
 use std::alloc::{AllocError, Global};
 use wb_base::List;
 use wb_metamodel::{Metamodel, ObjectId};
+use wb_store::{ObjectSet, Part, SlotPart, Store};
+use wb_validity::{Flaw, check_all};
+
+/// Why a model is not built.
+#[derive(Clone, Copy, Debug, PartialEq, Eq)]
+pub enum BuildRefusal {
+    /// A condition that a model has to meet, by its number, and an object that shows it.
+    Broken(u8, Option<ObjectId>),
+    NoMemory,
+}
+
+impl From<AllocError> for BuildRefusal {
+    ghost use Rattle.wb_model.specs.declared.building.BuildRefusal.TheVariants.{NoMemory};
+
+    ghost from_gives = { λ _ e. e ≡ NoMemory };
+
+    fn from(_error: AllocError) -> BuildRefusal {
+        BuildRefusal::NoMemory
+    }
+}
 
 /// The model that parts make, or the first condition of a valid model that they break.
 pub fn build(

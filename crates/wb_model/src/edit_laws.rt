@@ -1,16 +1,18 @@
 //! What is true of every edit that is accepted. These functions do nothing when they run.
 
-ghost use Rattle.std.specs.Prelude.{◌≡◌, ◌≢◌, ◌<◌, ◌↔◌, ℕ, Bool, true, false, not, [], ◌∷◌, ◌++◌, if◌then◌else◌, Some, None, Ok, filter};
+ghost use Rattle.std.specs.Prelude.{◌≡◌, ◌≢◌, ◌<◌, ◌↔◌, ℕ, true, false, not, [], ◌∷◌, ◌++◌, if◌then◌else◌, Some, None, Ok, filter};
 ghost use Rattle.wb_metamodel.specs.WellFormed.{WellFormed};
-ghost use Rattle.wb_model.specs.declared.scalars.Scalar.{Scalar};
-ghost use Rattle.wb_model.specs.declared.scalars.Scalar.TheVariants.{Object};
-ghost use Rattle.wb_model.specs.declared.scalars.Place.{Place};
-ghost use Rattle.wb_model.specs.declared.scalars.Place.TheVariants.{Root, In};
-ghost use Rattle.wb_model.specs.Scalars.{same};
-ghost use Rattle.wb_model.specs.Contents.{Contents, kind, slot, has_object};
-ghost use Rattle.wb_model.specs.Cells.{holder, is_plain, tree};
-ghost use Rattle.wb_model.specs.Valid.{opposite, Within, IsValid};
-ghost use Rattle.wb_model.specs.Edits.{link, stands, is_among, set, add, take_out, unset, move_to, remove, create};
+ghost use Rattle.wb_store.specs.declared.scalars.Scalar.{Scalar};
+ghost use Rattle.wb_store.specs.declared.scalars.Scalar.TheVariants.{Object};
+ghost use Rattle.wb_store.specs.declared.scalars.Place.{Place};
+ghost use Rattle.wb_store.specs.declared.scalars.Place.TheVariants.{Root, In};
+ghost use Rattle.wb_store.specs.Scalars.{same};
+ghost use Rattle.wb_store.specs.Contents.{Contents, kind, slot, has_object};
+ghost use Rattle.wb_store.specs.Cells.{holder, is_plain, tree};
+ghost use Rattle.wb_store.specs.Features.{opposite};
+ghost use Rattle.wb_validity.specs.Valid.{Within, IsValid};
+ghost use Rattle.wb_store.specs.Relinking.{link, is_among, stands};
+ghost use Rattle.wb_model.specs.Edits.{set, add, take_out, unset, move_to, remove, create};
 ghost use Rattle.wb_model.specs.EditLaws.{IsEdited, AreEdited, KeepsOrder, ChangesOnly, NumbersAreFresh, GoesWith, IsNowhere};
 
 /// An edit leaves a valid model, of the same metamodel.

@@ -1,14 +1,13 @@
 ghost use Rattle.std.specs.Prelude.{◌≡◌, ◌<◌, ◌&&◌, IfSome, length, not, if◌then◌else◌};
 ghost use Rattle.std.specs.List.{list_any};
-ghost use Rattle.wb_model.specs.Edits.{link, other_end, both_ends, stands, is_live, is_known_value, is_plain_feature, is_plain_link, is_full, finds_no_room, unless, refusal_of_link, refusal_of_take, refusal_of_unset};
-ghost use Rattle.wb_model.specs.Valid.{is_many, opposite};
+ghost use Rattle.wb_store.specs.Relinking.{link, other_end, both_ends, stands};
+ghost use Rattle.wb_model.specs.Edits.{is_live, is_known_value, is_plain_feature, is_plain_link, is_full, finds_no_room, unless, refusal_of_link, refusal_of_take, refusal_of_unset};
+ghost use Rattle.wb_store.specs.Features.{is_many, opposite};
 
-use crate::conditions::{is_of_class, is_of_feature, room};
-use crate::inverse::is_plain;
 use crate::refusals::ModelRefusal;
-use crate::scalars::Scalar;
-use crate::store::Store;
 use wb_metamodel::{FeatureId, Metamodel, ObjectId};
+use wb_store::{Scalar, Store, is_plain};
+use wb_validity::{is_of_class, is_of_feature, room};
 
 /// Why a value may not be set, or added where `many` is true.
 pub fn checked_link(

@@ -3,11 +3,15 @@ ghost use Rattle.wb_model.specs.EditChecks.{PlaceIsKnown};
 ghost use Rattle.wb_model.specs.Edits.{set, add, take_out, unset, move_to, create, remove, Edited};
 
 use crate::change_list::ChangeList;
+use crate::edits::{add, set, take, unset};
+use crate::edits_creations::create;
+use crate::edits_moves::move_to;
+use crate::edits_removals::remove;
 use crate::model::Model;
 use crate::refusals::ModelRefusal;
-use crate::scalars::{Place, Scalar};
 use std::alloc::Global;
 use wb_metamodel::{ClassId, FeatureId, ObjectId};
+use wb_store::{Place, Scalar};
 
 impl Model {
     /// The slot of a single plain feature becomes the value alone.
@@ -23,7 +27,7 @@ impl Model {
         ensures { Edited result (set self.old o f value) self.old self.new }
     {
         self.store.metamodel().well_formed();
-        self.store.set(alloc, o, f, value)
+        set(&mut self.store, alloc, o, f, value)
     }
 
     /// The value goes last in the slot of a plain feature of many values, unless it is there.
@@ -39,7 +43,7 @@ impl Model {
         ensures { Edited result (add self.old o f value) self.old self.new }
     {
         self.store.metamodel().well_formed();
-        self.store.add(alloc, o, f, value)
+        add(&mut self.store, alloc, o, f, value)
     }
 
     /// The value leaves the slot of a plain feature of many values; the others keep their order.
@@ -55,7 +59,7 @@ impl Model {
         ensures { Edited result (take_out self.old o f value.now) self.old self.new }
     {
         self.store.metamodel().well_formed();
-        self.store.take(alloc, o, f, value)
+        take(&mut self.store, alloc, o, f, value)
     }
 
     /// The slot of a plain feature becomes empty.
@@ -70,7 +74,7 @@ impl Model {
         ensures { Edited result (unset self.old o f) self.old self.new }
     {
         self.store.metamodel().well_formed();
-        self.store.unset(alloc, o, f)
+        unset(&mut self.store, alloc, o, f)
     }
 
     /// An object leaves its container, or the roots, and goes last in a containment slot, unless it stands there.
@@ -86,7 +90,7 @@ impl Model {
         ensures { Edited result (move_to self.old o p f) self.old self.new }
     {
         self.store.metamodel().well_formed();
-        self.store.move_to(alloc, o, p, f)
+        move_to(&mut self.store, alloc, o, p, f)
     }
 
     /// A new object, last in its place. Its number is answered: the one that was next.
@@ -104,7 +108,7 @@ impl Model {
     {
         self.store.metamodel().well_formed();
         let o = ObjectId(self.store.next());
-        match self.store.create(alloc, class, place) {
+        match create(&mut self.store, alloc, class, place) {
             Ok(()) => Ok(o),
             Err(refusal) => Err(refusal),
         }
@@ -120,6 +124,6 @@ impl Model {
         ensures { Edited result (remove self.old o) self.old self.new }
     {
         self.store.metamodel().well_formed();
-        self.store.remove(alloc, o)
+        remove(&mut self.store, alloc, o)
     }
 }

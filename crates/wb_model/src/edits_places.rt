@@ -1,20 +1,19 @@
 ghost use Rattle.std.specs.Prelude.{◌≡◌, ◌<◌, ◌∷◌, ◌&&◌, not, length, IfOk};
 ghost use Rattle.wb_metamodel.specs.WellFormed.{KindIsKnown};
-ghost use Rattle.wb_model.specs.declared.scalars.Scalar.TheVariants.{Object};
-ghost use Rattle.wb_model.specs.declared.scalars.Place.TheVariants.{In};
-ghost use Rattle.wb_model.specs.Cells.{tree};
+ghost use Rattle.wb_store.specs.declared.scalars.Scalar.TheVariants.{Object};
+ghost use Rattle.wb_store.specs.declared.scalars.Place.TheVariants.{In};
+ghost use Rattle.wb_store.specs.Cells.{tree};
 ghost use Rattle.wb_model.specs.EditChecks.{Tells, PlaceIsKnown, refusals_before_cycle, refusals_of_new};
-ghost use Rattle.wb_model.specs.Edits.{link, stands, is_live, is_full, is_among, may_contain, refers_to, conforms_as, unless, first_refusal, refusal_of_move, refusals_of_place, refusal_of_create};
-ghost use Rattle.wb_model.specs.Valid.{IsValid};
+ghost use Rattle.wb_store.specs.Relinking.{link, is_among, stands};
+ghost use Rattle.wb_model.specs.Edits.{is_live, is_full, may_contain, refers_to, conforms_as, unless, first_refusal, refusal_of_move, refusals_of_place, refusal_of_create};
+ghost use Rattle.wb_validity.specs.Valid.{IsValid};
 
-use crate::conditions::is_of_class;
 use crate::edits_checks::{is_full, is_live, stands};
-use crate::records::is_containment;
 use crate::refusals::ModelRefusal;
-use crate::scalars::{Place, Scalar};
-use crate::store::Store;
 use std::alloc::{AllocError, Global};
 use wb_metamodel::{ClassId, FeatureId, Kind, Metamodel, ObjectId};
+use wb_store::{Place, Scalar, Store, is_containment};
+use wb_validity::{is_of_class, tree};
 
 /// Why an object may not be put into a containment slot.
 pub fn checked_move(
@@ -122,7 +121,7 @@ fn is_among_tree(alloc: Global, store: &Store, o: ObjectId, p: ObjectId) -> Resu
     if o == p {
         return Ok(true);
     }
-    let tree = store.tree(alloc, o)?;
+    let tree = tree(store, alloc, o)?;
     Ok(has_number(tree.as_slice(), p))
 }
 

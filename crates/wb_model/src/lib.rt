@@ -1,13 +1,8 @@
 //! Models: objects of a metamodel's classes, with the values of their features.
 #![tactic(auto)]
 
-mod arranged;
 mod building;
 mod change_list;
-mod checks;
-mod conditions;
-mod containment;
-mod copies;
 mod edit_laws;
 mod edits;
 mod edits_checks;
@@ -17,29 +12,10 @@ mod edits_moves;
 mod edits_of_models;
 mod edits_places;
 mod edits_removals;
-mod extent;
-mod flaws;
-mod holders;
-mod inverse;
-mod links;
-mod marks;
 mod model;
-mod object_sets;
-mod objects;
-mod parts;
-mod records;
 mod refusals;
-mod removals;
-mod rings;
-mod scalars;
-mod slots;
-mod slots_of_objects;
-mod store;
-mod tree;
-mod uncontained;
-mod validity;
 
-pub use building::build;
+pub use building::{BuildRefusal, build};
 pub use change_list::ChangeList;
 pub use edit_laws::{
     created_objects_have_their_place, edits_change_their_slot, edits_give_new_numbers,
@@ -48,7 +24,6 @@ pub use edit_laws::{
     moved_objects_have_their_container, removed_objects_are_nowhere, trees_are_what_is_within,
 };
 pub use model::{Model, empty};
-pub use parts::{BuildRefusal, Part, SlotPart};
 pub use refusals::ModelRefusal;
-pub use scalars::{Cell, Place, Scalar};
-pub use validity::validity_is_decided;
+pub use wb_store::{Cell, Part, Place, Scalar, SlotPart};
+pub use wb_validity::validity_is_decided;

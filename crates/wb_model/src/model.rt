@@ -1,14 +1,14 @@
 ghost use Rattle.std.specs.Prelude.{◌≡◌, ◌==◌, ◌<◌, length, IfOk, IfSome};
 ghost use Rattle.std.specs.FinMap.{keys, len};
-ghost use Rattle.wb_model.specs.Contents.{kind, slot, empty_contents};
-ghost use Rattle.wb_model.specs.Cells.{extent, holder, inverse, tree};
-ghost use Rattle.wb_model.specs.Valid.{IsValid};
+ghost use Rattle.wb_store.specs.Contents.{kind, slot, empty_contents};
+ghost use Rattle.wb_store.specs.Cells.{extent, holder, inverse, tree};
+ghost use Rattle.wb_validity.specs.Valid.{IsValid};
 
-use crate::scalars::Scalar;
-use crate::store::Store;
 use std::alloc::{AllocError, Global};
 use wb_base::{Duplicate, List};
 use wb_metamodel::{ClassId, FeatureId, Metamodel, ObjectId};
+use wb_store::{Scalar, Store};
+use wb_validity::tree;
 
 /// A valid model: objects of a metamodel's classes, with the values of their features.
 #[derive(Drop)]
@@ -19,8 +19,8 @@ pub struct Model {
 impl std::marker::Model for Model {
     ghost use Rattle.std.specs.Coded.{codes};
     ghost use Rattle.std.specs.FinMap as map;
-    ghost use Rattle.wb_model.specs.Contents.{Contents};
-    ghost use Rattle.wb_model.specs.Valid.{IsValid};
+    ghost use Rattle.wb_store.specs.Contents.{Contents};
+    ghost use Rattle.wb_validity.specs.Valid.{IsValid};
 
     ghost Value = { Contents };
 
@@ -113,7 +113,7 @@ impl Model {
     pub fn tree(&self, alloc: Global, o: ObjectId) -> Result<List<ObjectId>, AllocError>
         ensures { IfOk result (λ os. os ≡ tree self.now o) }
     {
-        self.store.tree(alloc, o)
+        tree(&self.store, alloc, o)
     }
 
     /// The objects and plain references that hold an object, ascending.

@@ -10,8 +10,8 @@ use Rattle.wb_json.proofs.Ascending.{IsBelow}
 use Rattle.wb_json.specs.Form.{member_list}
 use Rattle.wb_json.specs.ToJson.{put_all}
 use Rattle.wb_model_json.specs.ByName.{put_named, by_name_onto, by_name}
-use Rattle.wb_model.proofs.Members.{In}
-use Rattle.wb_model.proofs.Members.In.{here, there}
+use Rattle.wb_store.proofs.Members.{In}
+use Rattle.wb_store.proofs.Members.In.{here, there}
 
 above : (k l : List ℕ) → IsBelow l k → slice_cmp nat_cmp k l ≡ Greater
 above k l h = nat_list_cmp_total.antisymm k l ∙ ap ordering_reverse h

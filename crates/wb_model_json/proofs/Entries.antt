@@ -3,14 +3,14 @@ use Rattle.std.proofs.Common.{◌≡◌, ℕ, Bool, true, false, List, [], ◌�
 use Rattle.std.proofs.lemmas.Bool.{and_parts, and_from, not_from_false, false≢true}
 use Rattle.std.proofs.lemmas.Bool.Decides.{nat_tests}
 use Rattle.std.specs.List.{list_any}
-use Rattle.wb_model.specs.Valid.{once}
+use Rattle.wb_store.specs.Places.{once}
 use Rattle.std.proofs.lemmas.Cmp.{tied_itself}
 use Rattle.std.specs.Cmp.{IsTotalOrder}
 use Rattle.std.specs.Ordering.{is_lt, nat_cmp}
 use Rattle.std.specs.FinMap.{FinMap, find, is_sorted, IsAntisymmetric, entries, entries_sorted, get, get-entries, from_entries, get-from_entries, same_map}
 use Rattle.std.specs.FinMap.Entries.{below_all}
-use Rattle.wb_model.proofs.Members.{In, IsFunctional, find-In, In-find}
-use Rattle.wb_model.proofs.Members.In.{here, there}
+use Rattle.wb_store.proofs.Members.{In, IsFunctional, find-In, In-find}
+use Rattle.wb_store.proofs.Members.In.{here, there}
 
 of-T : (b : Bool) → T b → b ≡ true
 of-T true h = refl

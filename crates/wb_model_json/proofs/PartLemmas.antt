@@ -10,16 +10,16 @@ use Rattle.wb_json.specs.Place.{Place, at_member, within}
 use Rattle.wb_json.specs.Form.{in_turn, or_wrong}
 use Rattle.wb_json.specs.Form as form
 use Rattle.wb_metamodel.specs.Metamodel.{Metamodel, class_named, feature_at}
-use Rattle.wb_metamodel.specs.Resolving.{in_place, walked}
+use Rattle.wb_ecore.specs.Resolving.{in_place, walked}
 use Rattle.wb_metamodel.proofs.Known.{class-known}
-use Rattle.wb_metamodel.specs.declared.features.Feature.{Feature}
-use Rattle.wb_model.specs.declared.scalars.Scalar.{Scalar}
-use Rattle.wb_model.specs.declared.parts.Part.{Part}
-use Rattle.wb_model.specs.declared.parts.SlotPart.{SlotPart}
-use Rattle.wb_model.specs.declared.records.Record.{Record}
-use Rattle.wb_model.specs.Parts.{slot_of, record_of, AreParts}
-use Rattle.wb_model.specs.Records.{is_known, is_known_slot, feature_of as slot_feature, id_of as record_id}
-use Rattle.wb_model.specs.Valid.{once}
+use Rattle.wb_ecore.specs.declared.features.Feature.{Feature}
+use Rattle.wb_store.specs.declared.scalars.Scalar.{Scalar}
+use Rattle.wb_store.specs.declared.parts.Part.{Part}
+use Rattle.wb_store.specs.declared.parts.SlotPart.{SlotPart}
+use Rattle.wb_store.specs.declared.records.Record.{Record}
+use Rattle.wb_store.specs.Parts.{slot_of, record_of, AreParts}
+use Rattle.wb_store.specs.Records.{is_known, is_known_slot, feature_of as slot_feature, id_of as record_id}
+use Rattle.wb_store.specs.Places.{once}
 use Rattle.wb_model_json.specs.declared.model_text.SlotText.{SlotText}
 use Rattle.wb_model_json.specs.declared.model_text.ObjectText.{ObjectText}
 use Rattle.wb_model_json.specs.declared.model_text.ModelText.{ModelText}

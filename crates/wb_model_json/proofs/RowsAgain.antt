@@ -21,13 +21,13 @@ use Rattle.wb_json.specs.ToJson.{members_json}
 use Rattle.wb_json.proofs.JsonTexts.{json_of_text}
 use Rattle.wb_metamodel.specs.Metamodel.{Metamodel, same_name, class_at, class_named, feature_at, features_of}
 use Rattle.wb_metamodel.specs.WellFormed.{WellFormed}
-use Rattle.wb_metamodel.specs.declared.classes.Class.{Class}
-use Rattle.wb_metamodel.specs.declared.features.Feature.{Feature}
+use Rattle.wb_ecore.specs.declared.classes.Class.{Class}
+use Rattle.wb_ecore.specs.declared.features.Feature.{Feature}
 use Rattle.wb_metamodel.proofs.Known.{features-known}
-use Rattle.wb_model.specs.Valid.{is_many}
-use Rattle.wb_model.proofs.LinkLemmas.{any_found}
-use Rattle.wb_model.proofs.Members.{In, In-all, map-In, Contains-In}
-use Rattle.wb_model.proofs.Members.In.{here, there}
+use Rattle.wb_store.specs.Features.{is_many}
+use Rattle.wb_validity.proofs.LinkLemmas.{any_found}
+use Rattle.wb_store.proofs.Members.{In, In-all, map-In, Contains-In}
+use Rattle.wb_store.proofs.Members.In.{here, there}
 use Rattle.wb_model_json.specs.declared.model_text.SlotText.{SlotText}
 use Rattle.wb_model_json.specs.declared.rows.ObjectRow.{ObjectRow}
 use Rattle.wb_model_json.specs.declared.rows.RowSlot.{RowSlot}

@@ -16,19 +16,19 @@ use Rattle.wb_json.specs.Json.{json_of}
 use Rattle.wb_json.proofs.Ascending.{IsBelowAll, Ascends, MembersAscend, json_of_ascends}
 use Rattle.wb_metamodel.specs.Metamodel.{Metamodel, same_name, class_named, enum_at, feature_at, feature_named, features_of, literal_named}
 use Rattle.wb_metamodel.specs.Checks.{is_name_of}
-use Rattle.wb_metamodel.specs.Resolving.{in_place, walked}
-use Rattle.wb_metamodel.specs.declared.classes.Enumeration.{Enumeration}
-use Rattle.wb_metamodel.specs.declared.features.Feature.{Feature}
-use Rattle.wb_metamodel.specs.declared.features.Kind.{Kind}
-use Rattle.wb_metamodel.specs.declared.features.Kind.TheVariants as kinds
+use Rattle.wb_ecore.specs.Resolving.{in_place, walked}
+use Rattle.wb_ecore.specs.declared.classes.Enumeration.{Enumeration}
+use Rattle.wb_ecore.specs.declared.features.Feature.{Feature}
+use Rattle.wb_ecore.specs.declared.features.Kind.{Kind}
+use Rattle.wb_ecore.specs.declared.features.Kind.TheVariants as kinds
 use Rattle.wb_metamodel.proofs.Known.{class-known}
-use Rattle.wb_metamodel.proofs.Positions.{position-Some}
-use Rattle.wb_model.specs.declared.scalars.Scalar.{Scalar}
-use Rattle.wb_model.specs.declared.scalars.Scalar.TheVariants as scalars
-use Rattle.wb_model.specs.Valid.{has_feature}
-use Rattle.wb_model.proofs.Found.{is_itself}
-use Rattle.wb_model.proofs.Members.{In, In-all, any_In}
-use Rattle.wb_model.proofs.Members.In.{here, there}
+use Rattle.wb_ecore.proofs.Positions.{position-Some}
+use Rattle.wb_store.specs.declared.scalars.Scalar.{Scalar}
+use Rattle.wb_store.specs.declared.scalars.Scalar.TheVariants as scalars
+use Rattle.wb_validity.specs.Valid.{has_feature}
+use Rattle.wb_store.proofs.Found.{is_itself}
+use Rattle.wb_store.proofs.Members.{In, In-all, any_In}
+use Rattle.wb_store.proofs.Members.In.{here, there}
 use Rattle.wb_model_json.specs.declared.model_text.ScalarText.{ScalarText}
 use Rattle.wb_model_json.specs.declared.model_text.ScalarText.TheVariants.{Number, Flag, Words}
 use Rattle.wb_model_json.specs.declared.model_text.SlotText.{SlotText}

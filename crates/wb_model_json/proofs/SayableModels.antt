@@ -18,13 +18,14 @@ use Rattle.wb_json.proofs.JsonTexts.{json_of_text}
 use Rattle.json.proofs.Printed.Utf8.{are_ascii, IsUtf8-are_ascii}
 use Rattle.wb_metamodel.specs.Metamodel.{Metamodel, features_of, enum_at}
 use Rattle.wb_metamodel.specs.WellFormed.{WellFormed}
-use Rattle.wb_metamodel.specs.declared.classes.Enumeration.{Enumeration}
-use Rattle.wb_model.specs.declared.scalars.Scalar.{Scalar}
-use Rattle.wb_model.specs.declared.scalars.Scalar.TheVariants as scalars
-use Rattle.wb_model.specs.Contents.{Contents, kind}
-use Rattle.wb_model.specs.Valid.{Valid, is_many}
-use Rattle.wb_model.proofs.Members.{In, In-all, map-In}
-use Rattle.wb_model.proofs.Members.In.{here, there}
+use Rattle.wb_ecore.specs.declared.classes.Enumeration.{Enumeration}
+use Rattle.wb_store.specs.declared.scalars.Scalar.{Scalar}
+use Rattle.wb_store.specs.declared.scalars.Scalar.TheVariants as scalars
+use Rattle.wb_store.specs.Contents.{Contents, kind}
+use Rattle.wb_store.specs.Features.{is_many}
+use Rattle.wb_validity.specs.Valid.{Valid}
+use Rattle.wb_store.proofs.Members.{In, In-all, map-In}
+use Rattle.wb_store.proofs.Members.In.{here, there}
 use Rattle.wb_model_json.specs.ByName.{by_name}
 use Rattle.wb_model_json.specs.Sayable.{is_sayable, IsSayable}
 use Rattle.wb_model_json.specs.Written.{literal_text, scalar_data, single_data, slot_data, named_slots, slots_data, class_name, object_of_class, object_data, number_data, model_data, text_of}

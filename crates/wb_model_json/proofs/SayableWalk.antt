@@ -6,12 +6,12 @@ use Rattle.std.specs.List.{list_all}
 use Rattle.std.specs.Option.{option_map_or}
 use Rattle.std.specs.FinMap.{entries, nat_cmp-IsAntisymmetric}
 use Rattle.wb_metamodel.specs.Metamodel.{features_of}
-use Rattle.wb_model.specs.Contents.{Contents, Filled, members, kind, slot}
-use Rattle.wb_model.specs.Valid.{Valid, IsValid, is_of_class, has_feature}
-use Rattle.wb_model.proofs.LinkLemmas.{any_found}
+use Rattle.wb_store.specs.Contents.{Contents, Filled, members, kind, slot}
+use Rattle.wb_validity.specs.Valid.{Valid, IsValid, is_of_class, has_feature}
+use Rattle.wb_validity.proofs.LinkLemmas.{any_found}
 use Rattle.wb_model.proofs.Live.{kind-at}
-use Rattle.wb_model.proofs.Maps.{slot_cmp_total, slot_cmp-IsAntisymmetric}
-use Rattle.wb_model.proofs.Members.{In, In-all, all_In}
+use Rattle.wb_store.proofs.Maps.{slot_cmp_total, slot_cmp-IsAntisymmetric}
+use Rattle.wb_store.proofs.Members.{In, In-all, all_In}
 use Rattle.wb_model_json.specs.Sayable.{is_sayable, is_sayable_object, IsSayable}
 use Rattle.wb_model_json.proofs.Entries.{entry-get, get-entry}
 use Rattle.wb_model_json.proofs.WrittenObjects.{entry-kind}

@@ -7,8 +7,8 @@ use Rattle.wb_json.proofs.Ascending.{IsBelowAll}
 use Rattle.wb_model_json.specs.ByName.{by_name}
 use Rattle.wb_model_json.proofs.ByName.{json_members, put_all-by_name, IsBelowEach, Ascend, by_name-ascend}
 use Rattle.wb_model_json.proofs.ReadBack.{IsSayable, ItemsAreSayable, MembersAreSayable}
-use Rattle.wb_model.proofs.Members.{In}
-use Rattle.wb_model.proofs.Members.In.{here, there}
+use Rattle.wb_store.proofs.Members.{In}
+use Rattle.wb_store.proofs.Members.In.{here, there}
 
 -- a value that is read back, and that has at most so many levels
 pub record IsShallow (levels : ℕ) (d : Data) : Type 0 where

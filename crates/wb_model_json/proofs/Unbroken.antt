@@ -5,17 +5,17 @@ use Rattle.std.proofs.lemmas.Bool.Decides.{nat_tests}
 use Rattle.std.specs.Option.{option_map, option_or}
 use Rattle.std.specs.List.{find}
 use Rattle.std.specs.FinMap.{entries}
-use Rattle.wb_model.specs.declared.conditions.Condition.{Condition}
-use Rattle.wb_model.specs.declared.conditions.Condition.TheVariants.{OfClass, HasRoom, OfKinds, Differ, HeldBack}
-use Rattle.wb_model.specs.Broken.{Breach, shown_by, unless, least, slots_at, breaks, broken, broken_number, broken_first, broken_values, broken_containment, broken_holding}
-use Rattle.wb_model.specs.Conditions.{meets}
-use Rattle.wb_model.specs.Contents.{Contents, Filled, members}
-use Rattle.wb_model.specs.Valid.{every_slot, is_abstract, IsValid}
-use Rattle.wb_model.specs.ValidTest.{holders}
-use Rattle.wb_model.proofs.Members.{In, In-all, all_In}
-use Rattle.wb_model.proofs.Members.In.{here, there}
-use Rattle.wb_model.proofs.Trees.{filter-In}
-use Rattle.wb_model.proofs.ValidTest.{contained_once-decided, is_within-decides, roots-decided}
+use Rattle.wb_validity.specs.declared.conditions.Condition.{Condition}
+use Rattle.wb_validity.specs.declared.conditions.Condition.TheVariants.{OfClass, HasRoom, OfKinds, Differ, HeldBack}
+use Rattle.wb_validity.specs.Broken.{Breach, shown_by, unless, least, slots_at, breaks, broken, broken_number, broken_first, broken_values, broken_containment, broken_holding}
+use Rattle.wb_validity.specs.Conditions.{meets}
+use Rattle.wb_store.specs.Contents.{Contents, Filled, members}
+use Rattle.wb_validity.specs.Valid.{every_slot, is_abstract, IsValid}
+use Rattle.wb_validity.specs.ValidTest.{holders}
+use Rattle.wb_store.proofs.Members.{In, In-all, all_In}
+use Rattle.wb_store.proofs.Members.In.{here, there}
+use Rattle.wb_validity.proofs.Trees.{filter-In}
+use Rattle.wb_validity.proofs.ValidTest.{contained_once-decided, is_within-decides, roots-decided}
 
 module _ {A B : Type 0} (p : A → Bool) (key : A → B) where
   none_find : (xs : List A) → ((x : A) → In x xs → p x ≡ false) → option_map key (find p xs) ≡ None

@@ -4,9 +4,9 @@ use Rattle.std.proofs.lemmas.Bool.{and_parts, eqb-true, false_from_ne_true, both
 use Rattle.std.proofs.lemmas.List.Folds.{list_any-append}
 use Rattle.std.specs.Prelude.{is_some, not}
 use Rattle.std.specs.List.{list_any}
-use Rattle.wb_model.specs.Valid.{once}
-use Rattle.wb_model.proofs.Members.{In, any_In}
-use Rattle.wb_model.proofs.Members.In.{here, there}
+use Rattle.wb_store.specs.Places.{once}
+use Rattle.wb_store.proofs.Members.{In, any_In}
+use Rattle.wb_store.proofs.Members.In.{here, there}
 use Rattle.wb_model_json.specs.ModelFile.{repeat_from, has_repeat}
 
 of_not : (b : Bool) → not b ≡ true → b ≡ false

@@ -5,12 +5,12 @@ use Rattle.serde_json.specs.Data.{Data}
 use Rattle.serde_json.specs.View.{items_of}
 use Rattle.wb_json.specs.Place.{Place, at_index, at_member}
 use Rattle.wb_json.specs.Form.{◌>>=◌, in_turn, item_list, item_of, list_of, names_pass, member_list, member_of, members_of, object_with, is_name}
-use Rattle.wb_metamodel.specs.Resolving.{in_place, walked}
+use Rattle.wb_ecore.specs.Resolving.{in_place, walked}
 use Rattle.wb_json.specs.ToJson.{list_json, members_json}
 use Rattle.wb_model_json.specs.ByName.{by_name}
 use Rattle.wb_model_json.proofs.ByName.{json_members, put_all-by_name, member_list-json}
-use Rattle.wb_model.proofs.Members.{In}
-use Rattle.wb_model.proofs.Members.In.{here, there}
+use Rattle.wb_store.proofs.Members.{In}
+use Rattle.wb_store.proofs.Members.In.{here, there}
 
 module _ {A B : Type 0} (form : Data → Result B Place) (json : A → Data) (text : A → B) where
   items-from : (i : ℕ) (xs : List A) → ((x : A) → In x xs → form (json x) ≡ Ok (text x)) → in_turn (item_of form) (enumerate_from i (item_list (items_of (map json xs)))) ≡ Ok (map text xs)

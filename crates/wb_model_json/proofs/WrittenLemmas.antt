@@ -5,10 +5,10 @@ use Rattle.serde_json.specs.Written.{has_float}
 use Rattle.wb_json.specs.ToJson.{list_json}
 use Rattle.wb_json.specs.NoFloats.{integer_no_float, list_no_float, members_no_float}
 use Rattle.wb_metamodel.specs.Metamodel.{Metamodel, features_of}
-use Rattle.wb_model.specs.declared.scalars.Scalar.{Scalar}
-use Rattle.wb_model.specs.declared.scalars.Scalar.TheVariants.{Int, Bool as Boolean, Text, Literal, Object}
-use Rattle.wb_model.specs.Contents.{Contents, kind}
-use Rattle.wb_model.specs.Valid.{is_many}
+use Rattle.wb_store.specs.declared.scalars.Scalar.{Scalar}
+use Rattle.wb_store.specs.declared.scalars.Scalar.TheVariants.{Int, Bool as Boolean, Text, Literal, Object}
+use Rattle.wb_store.specs.Contents.{Contents, kind}
+use Rattle.wb_store.specs.Features.{is_many}
 use Rattle.std.specs.FinMap.{keys}
 use Rattle.wb_model_json.specs.Written.{scalar_data, single_data, slot_data, named_slots, object_of_class, object_data, row_of_class, row_data, number_data, model_data}
 

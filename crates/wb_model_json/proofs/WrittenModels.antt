@@ -18,20 +18,22 @@ use Rattle.wb_json.specs.Json.{json_of}
 use Rattle.wb_json.specs.ToJson.{list_json}
 use Rattle.wb_metamodel.specs.Metamodel.{features_of}
 use Rattle.wb_metamodel.specs.WellFormed.{WellFormed}
-use Rattle.wb_model.specs.declared.scalars.Scalar.{Scalar}
-use Rattle.wb_model.specs.declared.parts.Part.{Part}
-use Rattle.wb_model.specs.Broken.{broken}
-use Rattle.wb_model.specs.Contents.{Contents, Filled, members, slot_cmp, kind, slot}
-use Rattle.wb_model.specs.Parts.{slot_of, record_of, made_of, is_listed, is_listed_slot}
-use Rattle.wb_model.specs.Records.{kind_entry, filled, slot_entry, slot_entries}
-use Rattle.wb_model.specs.Valid.{Valid, IsValid, once, is_of_class, has_feature, is_many}
-use Rattle.wb_model.proofs.Found.{is_itself}
-use Rattle.wb_model.proofs.LinkLemmas.{any_found}
+use Rattle.wb_store.specs.declared.scalars.Scalar.{Scalar}
+use Rattle.wb_store.specs.declared.parts.Part.{Part}
+use Rattle.wb_validity.specs.Broken.{broken}
+use Rattle.wb_store.specs.Contents.{Contents, Filled, members, slot_cmp, kind, slot}
+use Rattle.wb_store.specs.Parts.{slot_of, record_of, made_of, is_listed, is_listed_slot}
+use Rattle.wb_store.specs.Records.{kind_entry, filled, slot_entry, slot_entries}
+use Rattle.wb_store.specs.Features.{is_many}
+use Rattle.wb_store.specs.Places.{once}
+use Rattle.wb_validity.specs.Valid.{Valid, IsValid, is_of_class, has_feature}
+use Rattle.wb_store.proofs.Found.{is_itself}
+use Rattle.wb_validity.proofs.LinkLemmas.{any_found}
 use Rattle.wb_model.proofs.Live.{kind-at, kind-some}
 use Rattle.wb_model.proofs.Made.{none_miswritten}
-use Rattle.wb_model.proofs.Maps.{slot_cmp_total, slot_cmp-IsAntisymmetric}
-use Rattle.wb_model.proofs.Members.{In, In-all, all_In, any_In, In-map, map-In, In-flat_map, flat_map-In, Contains-In, from_entries-same}
-use Rattle.wb_model.proofs.Members.In.{here, there}
+use Rattle.wb_store.proofs.Maps.{slot_cmp_total, slot_cmp-IsAntisymmetric}
+use Rattle.wb_store.proofs.Members.{In, In-all, all_In, any_In, In-map, map-In, In-flat_map, flat_map-In, Contains-In, from_entries-same}
+use Rattle.wb_store.proofs.Members.In.{here, there}
 use Rattle.wb_model_json.specs.declared.model_text.ObjectText.{ObjectText}
 use Rattle.wb_model_json.specs.declared.model_text.ModelText.{ModelText}
 use Rattle.wb_model_json.specs.declared.refusal.ModelCode.TheVariants.{BadJson, BadShape, TooMany, DuplicateObject, UnknownName}

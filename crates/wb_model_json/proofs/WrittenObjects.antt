@@ -11,16 +11,17 @@ use Rattle.serde_json.specs.Data.{Data, number, string, object, no_members, memb
 use Rattle.wb_json.specs.Form.{is_name, members_of, object_with}
 use Rattle.wb_metamodel.specs.Metamodel.{class_at, feature_at, features_of}
 use Rattle.wb_metamodel.specs.WellFormed.{WellFormed}
-use Rattle.wb_metamodel.specs.declared.classes.Class.{Class}
-use Rattle.wb_metamodel.specs.declared.features.Feature.{Feature}
+use Rattle.wb_ecore.specs.declared.classes.Class.{Class}
+use Rattle.wb_ecore.specs.declared.features.Feature.{Feature}
 use Rattle.wb_metamodel.proofs.Known.{features-known}
-use Rattle.wb_model.specs.declared.scalars.Scalar.{Scalar}
-use Rattle.wb_model.specs.declared.parts.Part.{Part}
-use Rattle.wb_model.specs.Contents.{Contents, Filled, members, slot_cmp, kind, slot}
-use Rattle.wb_model.specs.Valid.{Valid, every_slot, is_many, is_of_kind, is_of_feature}
-use Rattle.wb_model.proofs.Maps.{slot_cmp_total, slot_cmp-IsAntisymmetric}
-use Rattle.wb_model.proofs.Members.{In, In-all, map-In, Contains-In}
-use Rattle.wb_model.proofs.Trees.{filter-In}
+use Rattle.wb_store.specs.declared.scalars.Scalar.{Scalar}
+use Rattle.wb_store.specs.declared.parts.Part.{Part}
+use Rattle.wb_store.specs.Contents.{Contents, Filled, members, slot_cmp, kind, slot}
+use Rattle.wb_store.specs.Features.{is_many}
+use Rattle.wb_validity.specs.Valid.{Valid, every_slot, is_of_kind, is_of_feature}
+use Rattle.wb_store.proofs.Maps.{slot_cmp_total, slot_cmp-IsAntisymmetric}
+use Rattle.wb_store.proofs.Members.{In, In-all, map-In, Contains-In}
+use Rattle.wb_validity.proofs.Trees.{filter-In}
 use Rattle.wb_model_json.specs.declared.model_text.SlotText.{SlotText}
 use Rattle.wb_model_json.specs.declared.model_text.ObjectText.{ObjectText}
 use Rattle.wb_model_json.specs.ByName.{by_name}

@@ -16,14 +16,15 @@ use Rattle.wb_json.specs.Form.{◌>>=◌}
 use Rattle.wb_json.specs.ToJson.{members_json}
 use Rattle.wb_metamodel.specs.Metamodel.{Metamodel, features_of}
 use Rattle.wb_metamodel.specs.WellFormed.{WellFormed}
-use Rattle.wb_metamodel.specs.declared.features.Feature.{Feature}
-use Rattle.wb_metamodel.specs.declared.features.Kind.{Kind}
-use Rattle.wb_model.specs.declared.scalars.Scalar.{Scalar}
-use Rattle.wb_model.specs.Contents.{Contents, kind}
-use Rattle.wb_model.specs.Valid.{Valid, is_many}
-use Rattle.wb_model.proofs.Found.{is_itself}
-use Rattle.wb_model.proofs.Members.{In, In-all, any_In}
-use Rattle.wb_model.proofs.Members.In.{here, there}
+use Rattle.wb_ecore.specs.declared.features.Feature.{Feature}
+use Rattle.wb_ecore.specs.declared.features.Kind.{Kind}
+use Rattle.wb_store.specs.declared.scalars.Scalar.{Scalar}
+use Rattle.wb_store.specs.Contents.{Contents, kind}
+use Rattle.wb_store.specs.Features.{is_many}
+use Rattle.wb_validity.specs.Valid.{Valid}
+use Rattle.wb_store.proofs.Found.{is_itself}
+use Rattle.wb_store.proofs.Members.{In, In-all, any_In}
+use Rattle.wb_store.proofs.Members.In.{here, there}
 use Rattle.wb_model_json.specs.ByName.{by_name}
 use Rattle.wb_model_json.specs.ModelFile.{value_for}
 use Rattle.wb_model_json.specs.Rows.{slot_name, row_slot, data_of_row, text_of_row, names_ascend, IsSaid, IsRowSlot, IsRow, IsTextOf, slot_row, row_of}

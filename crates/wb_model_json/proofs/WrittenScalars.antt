@@ -10,16 +10,17 @@ use Rattle.serde_json.specs.Find.{as_array}
 use Rattle.wb_json.specs.Form.{◌>>=◌, in_turn, or_wrong, list_of}
 use Rattle.wb_json.specs.ToJson.{list_json}
 use Rattle.wb_metamodel.specs.Metamodel.{Metamodel, enum_at, literals_of, literal_named}
-use Rattle.wb_metamodel.specs.Resolving.{walked}
+use Rattle.wb_ecore.specs.Resolving.{walked}
 use Rattle.wb_metamodel.specs.WellFormed.{WellFormed}
-use Rattle.wb_metamodel.specs.declared.classes.Enumeration.{Enumeration}
-use Rattle.wb_metamodel.specs.declared.features.Kind.{Kind}
-use Rattle.wb_metamodel.specs.declared.features.Kind.TheVariants as kinds
-use Rattle.wb_model.specs.declared.scalars.Scalar.{Scalar}
-use Rattle.wb_model.specs.declared.scalars.Scalar.TheVariants as scalars
-use Rattle.wb_model.specs.Contents.{Contents}
-use Rattle.wb_model.specs.Valid.{is_many, is_of_kind}
-use Rattle.wb_model.proofs.Members.{In, In-all}
+use Rattle.wb_ecore.specs.declared.classes.Enumeration.{Enumeration}
+use Rattle.wb_ecore.specs.declared.features.Kind.{Kind}
+use Rattle.wb_ecore.specs.declared.features.Kind.TheVariants as kinds
+use Rattle.wb_store.specs.declared.scalars.Scalar.{Scalar}
+use Rattle.wb_store.specs.declared.scalars.Scalar.TheVariants as scalars
+use Rattle.wb_store.specs.Contents.{Contents}
+use Rattle.wb_store.specs.Features.{is_many}
+use Rattle.wb_validity.specs.Valid.{is_of_kind}
+use Rattle.wb_store.proofs.Members.{In, In-all}
 use Rattle.wb_model_json.specs.declared.model_text.ScalarText.{ScalarText}
 use Rattle.wb_model_json.specs.declared.model_text.ScalarText.TheVariants.{Number, Flag, Words}
 use Rattle.wb_model_json.specs.declared.model_text.SlotText.{SlotText}

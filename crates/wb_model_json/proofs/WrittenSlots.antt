@@ -13,14 +13,15 @@ use Rattle.wb_json.specs.Form.{in_turn, or_wrong, is_name}
 use Rattle.wb_json.proofs.Ascending.{IsBelow}
 use Rattle.wb_metamodel.specs.Metamodel.{Metamodel, class_at, feature_at, feature_named, features_of, numbers}
 use Rattle.wb_metamodel.specs.WellFormed.{WellFormed}
-use Rattle.wb_metamodel.specs.declared.classes.Class.{Class}
-use Rattle.wb_metamodel.specs.declared.features.Feature.{Feature}
-use Rattle.wb_model.specs.declared.scalars.Scalar.{Scalar}
-use Rattle.wb_model.specs.declared.parts.SlotPart.{SlotPart}
-use Rattle.wb_model.specs.Valid.{is_many, once}
-use Rattle.wb_model.proofs.LinkLemmas.{any_found}
-use Rattle.wb_model.proofs.Members.{In, Contains-In, map-In}
-use Rattle.wb_model.proofs.Members.In.{here, there}
+use Rattle.wb_ecore.specs.declared.classes.Class.{Class}
+use Rattle.wb_ecore.specs.declared.features.Feature.{Feature}
+use Rattle.wb_store.specs.declared.scalars.Scalar.{Scalar}
+use Rattle.wb_store.specs.declared.parts.SlotPart.{SlotPart}
+use Rattle.wb_store.specs.Features.{is_many}
+use Rattle.wb_store.specs.Places.{once}
+use Rattle.wb_validity.proofs.LinkLemmas.{any_found}
+use Rattle.wb_store.proofs.Members.{In, Contains-In, map-In}
+use Rattle.wb_store.proofs.Members.In.{here, there}
 use Rattle.wb_model_json.specs.declared.model_text.SlotText.{SlotText}
 use Rattle.wb_model_json.specs.declared.model_text.ObjectText.{ObjectText}
 use Rattle.wb_model_json.specs.ModelFile.{values_for, slot_with, slot_named, slot_for, slots_for, feature_of, has_repeat, part_with, part_for}

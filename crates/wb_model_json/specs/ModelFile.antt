@@ -8,16 +8,16 @@ use Rattle.wb_json.specs.Form.{in_turn, or_wrong}
 use Rattle.wb_json.specs.Json.{json_of}
 use Rattle.wb_metamodel.specs.Metamodel.{Metamodel, numbers, class_named, feature_named, feature_at, literal_named}
 use Rattle.wb_metamodel.specs.Checks.{is_name_of}
-use Rattle.wb_metamodel.specs.Resolving.{walked}
-use Rattle.wb_metamodel.specs.declared.features.Kind.{Kind}
-use Rattle.wb_metamodel.specs.declared.features.Kind.TheVariants as kinds
-use Rattle.wb_model.specs.declared.scalars.Scalar.{Scalar}
-use Rattle.wb_model.specs.declared.scalars.Scalar.TheVariants as scalars
-use Rattle.wb_model.specs.declared.parts.Part.{Part}
-use Rattle.wb_model.specs.declared.parts.SlotPart.{SlotPart}
-use Rattle.wb_model.specs.Broken.{Breach, broken, miswritten}
-use Rattle.wb_model.specs.Contents.{Contents}
-use Rattle.wb_model.specs.Parts.{made_of}
+use Rattle.wb_ecore.specs.Resolving.{walked}
+use Rattle.wb_ecore.specs.declared.features.Kind.{Kind}
+use Rattle.wb_ecore.specs.declared.features.Kind.TheVariants as kinds
+use Rattle.wb_store.specs.declared.scalars.Scalar.{Scalar}
+use Rattle.wb_store.specs.declared.scalars.Scalar.TheVariants as scalars
+use Rattle.wb_store.specs.declared.parts.Part.{Part}
+use Rattle.wb_store.specs.declared.parts.SlotPart.{SlotPart}
+use Rattle.wb_validity.specs.Broken.{Breach, broken, miswritten}
+use Rattle.wb_store.specs.Contents.{Contents}
+use Rattle.wb_store.specs.Parts.{made_of}
 use Rattle.wb_model_json.specs.declared.model_text.ScalarText.{ScalarText}
 use Rattle.wb_model_json.specs.declared.model_text.ScalarText.TheVariants.{Number, Flag, Words}
 use Rattle.wb_model_json.specs.declared.model_text.SlotText.{SlotText}

@@ -5,8 +5,8 @@ use Rattle.serde_json.specs.Data.{Data}
 use Rattle.wb_json.specs.Place.{Place}
 use Rattle.wb_json.specs.Form.{◌>>=◌, or_wrong, in_turn, name_of, listed, needed, members_of}
 use Rattle.wb_metamodel.specs.Metamodel.{Metamodel, class_named, feature_at, feature_named}
-use Rattle.wb_metamodel.specs.declared.features.Feature.{Feature}
-use Rattle.wb_model.specs.declared.scalars.Scalar.{Scalar}
+use Rattle.wb_ecore.specs.declared.features.Feature.{Feature}
+use Rattle.wb_store.specs.declared.scalars.Scalar.{Scalar}
 use Rattle.wb_model_json.specs.declared.model_text.SlotText.{SlotText}
 use Rattle.wb_model_json.specs.declared.rows.ObjectRow.{ObjectRow}
 use Rattle.wb_model_json.specs.declared.rows.RowSlot.{RowSlot}

@@ -9,11 +9,12 @@ use Rattle.serde_json.specs.Written.{compact_text}
 use Rattle.wb_json.specs.Form.{◌>>=◌}
 use Rattle.wb_json.specs.ToJson.{members_json}
 use Rattle.wb_metamodel.specs.Metamodel.{Metamodel, feature_at, features_of}
-use Rattle.wb_metamodel.specs.declared.features.Feature.{Feature}
-use Rattle.wb_metamodel.specs.declared.features.Kind.{Kind}
-use Rattle.wb_model.specs.declared.scalars.Scalar.{Scalar}
-use Rattle.wb_model.specs.Contents.{Contents}
-use Rattle.wb_model.specs.Valid.{has_feature, is_many}
+use Rattle.wb_ecore.specs.declared.features.Feature.{Feature}
+use Rattle.wb_ecore.specs.declared.features.Kind.{Kind}
+use Rattle.wb_store.specs.declared.scalars.Scalar.{Scalar}
+use Rattle.wb_store.specs.Contents.{Contents}
+use Rattle.wb_store.specs.Features.{is_many}
+use Rattle.wb_validity.specs.Valid.{has_feature}
 use Rattle.wb_model_json.specs.declared.rows.ObjectRow.{ObjectRow}
 use Rattle.wb_model_json.specs.declared.rows.RowSlot.{RowSlot}
 use Rattle.wb_model_json.specs.ByName.{by_name}

@@ -3,11 +3,11 @@ use Rattle.std.specs.Prelude.{◌≡◌, ◌^◌, ℕ, Bool, true, ◌&&◌, nat
 use Rattle.std.specs.Option.{option_map_or}
 use Rattle.std.specs.List.{list_all}
 use Rattle.std.specs.Str.{is_utf8}
-use Rattle.wb_model.specs.declared.scalars.Scalar.{Scalar}
-use Rattle.wb_model.specs.declared.scalars.Scalar.TheVariants as scalars
+use Rattle.wb_store.specs.declared.scalars.Scalar.{Scalar}
+use Rattle.wb_store.specs.declared.scalars.Scalar.TheVariants as scalars
 use Rattle.wb_metamodel.specs.Metamodel.{features_of}
-use Rattle.wb_model.specs.Contents.{Contents, kind, slot}
-use Rattle.wb_model.specs.Valid.{every_object, every_slot}
+use Rattle.wb_store.specs.Contents.{Contents, kind, slot}
+use Rattle.wb_validity.specs.Valid.{every_object, every_slot}
 
 -- an integer of 64 signed bits, a text that is UTF-8, an object's number of 32 bits
 abbrev pub is_sayable : Scalar → Bool

@@ -7,12 +7,12 @@ use Rattle.serde_json.specs.Find.{of_integer}
 use Rattle.serde_json.specs.Written.{compact_text}
 use Rattle.wb_json.specs.ToJson.{list_json, members_json}
 use Rattle.wb_metamodel.specs.Metamodel.{Metamodel, class_at, feature_at, features_of, literals_of}
-use Rattle.wb_metamodel.specs.declared.classes.Class.{Class}
-use Rattle.wb_metamodel.specs.declared.features.Feature.{Feature}
-use Rattle.wb_model.specs.declared.scalars.Scalar.{Scalar}
-use Rattle.wb_model.specs.declared.scalars.Scalar.TheVariants as scalars
-use Rattle.wb_model.specs.Contents.{Contents, kind, slot}
-use Rattle.wb_model.specs.Valid.{is_many}
+use Rattle.wb_ecore.specs.declared.classes.Class.{Class}
+use Rattle.wb_ecore.specs.declared.features.Feature.{Feature}
+use Rattle.wb_store.specs.declared.scalars.Scalar.{Scalar}
+use Rattle.wb_store.specs.declared.scalars.Scalar.TheVariants as scalars
+use Rattle.wb_store.specs.Contents.{Contents, kind, slot}
+use Rattle.wb_store.specs.Features.{is_many}
 
 -- the name of a literal
 abbrev pub literal_text : Metamodel → ℕ → ℕ → List ℕ

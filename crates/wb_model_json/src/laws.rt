@@ -3,8 +3,8 @@
 ghost use Rattle.std.specs.Prelude.{◌≡◌, ℕ, List, Some, Ok};
 ghost use Rattle.wb_metamodel.specs.Metamodel.{Metamodel as Definition};
 ghost use Rattle.wb_metamodel.specs.WellFormed.{WellFormed};
-ghost use Rattle.wb_model.specs.Contents.{Contents, kind};
-ghost use Rattle.wb_model.specs.Valid.{IsValid};
+ghost use Rattle.wb_store.specs.Contents.{Contents, kind};
+ghost use Rattle.wb_validity.specs.Valid.{IsValid};
 ghost use Rattle.wb_model_json.specs.ModelFile as file;
 ghost use Rattle.wb_model_json.specs.Rows.{IsTextOf, row_of};
 ghost use Rattle.wb_model_json.specs.declared.rows.ObjectRow.{ObjectRow};

@@ -2,7 +2,7 @@ ghost use Rattle.std.specs.Prelude.{◌≡◌, ◌<◌, codes, is_some, length, 
 ghost use Rattle.wb_json.specs.Form.{Gives, in_turn, or_wrong};
 ghost use Rattle.wb_json.specs.Place.{at_index, at_member};
 ghost use Rattle.wb_metamodel.specs.Metamodel.{class_named};
-ghost use Rattle.wb_metamodel.specs.Resolving.{walked};
+ghost use Rattle.wb_ecore.specs.Resolving.{walked};
 ghost use Rattle.wb_model_json.specs.ModelFile.{feature_of, has_repeat, parts_for, part_for, slots_for, slot_for, slot_named, slot_with};
 
 use crate::features::{feature_at, feature_for};

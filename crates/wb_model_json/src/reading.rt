@@ -1,6 +1,6 @@
 ghost use Rattle.std.specs.Prelude.{◌≡◌, Ok, Err, IfOk, codes, ◌++◌};
 ghost use Rattle.wb_json.specs.Form.{Gives};
-ghost use Rattle.wb_model.specs.Contents.{Contents};
+ghost use Rattle.wb_store.specs.Contents.{Contents};
 ghost use Rattle.wb_model_json.specs.ModelFile.{model, read_text, checked_parts, made, breach_at};
 ghost use Rattle.wb_model_json.specs.Refusals.{Answers, Refuses, broken_code, coded};
 

@@ -1,7 +1,7 @@
 ghost use Rattle.std.specs.Prelude.{◌≡◌, ◌<◌, ◌^◌, true, length};
 ghost use Rattle.std.specs.List.{list_all};
 ghost use Rattle.wb_metamodel.specs.Metamodel.{features_of};
-ghost use Rattle.wb_model.specs.Contents.{slot};
+ghost use Rattle.wb_store.specs.Contents.{slot};
 ghost use Rattle.wb_model_json.specs.Sayable.{is_sayable, is_sayable_object, IsSayable};
 
 use crate::rows::{ObjectRow, RowSlot};

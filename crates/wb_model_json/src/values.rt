@@ -1,7 +1,7 @@
 ghost use Rattle.std.specs.Prelude.{◌≡◌, ◌<◌, length};
 ghost use Rattle.wb_json.specs.Form.{Gives, in_turn, or_wrong};
 ghost use Rattle.wb_json.specs.Place.{at_index};
-ghost use Rattle.wb_metamodel.specs.Resolving.{walked};
+ghost use Rattle.wb_ecore.specs.Resolving.{walked};
 ghost use Rattle.wb_metamodel.specs.WellFormed.{KindIsKnown};
 ghost use Rattle.wb_model_json.specs.ModelFile.{object_number, number_for, literal_for, words_for, value_for, values_for};
 

@@ -4,7 +4,7 @@ ghost use Rattle.serde_json.specs.Data.{string};
 ghost use Rattle.serde_json.specs.View.{view, members_view};
 ghost use Rattle.wb_json.specs.ToJson.{list_json, put_all};
 ghost use Rattle.wb_metamodel.specs.Metamodel.{features_of};
-ghost use Rattle.wb_model.specs.Contents.{kind};
+ghost use Rattle.wb_store.specs.Contents.{kind};
 ghost use Rattle.wb_model_json.specs.Written.{text_of, row_text, row_data, row_of_class, model_data, object_data, object_of_class, slots_data, slot_data, scalar_data, single_data, literal_text, class_name, feature_name, named_slots, number_data};
 
 use serde_json::{Map, Value, json};

@@ -6,7 +6,7 @@ use Rattle.std.proofs.lemmas.Bool.{eqb-true}
 use Rattle.std.proofs.lemmas.List.Elements.{filter_map-append, filter-append}
 use Rattle.indexmap.specs.IndexSet.{insert_key}
 use Rattle.wb_metamodel.specs.Metamodel.{first_places}
-use Rattle.wb_model.specs.declared.scalars.Scalar.{Scalar}
+use Rattle.wb_store.specs.declared.scalars.Scalar.{Scalar}
 use Rattle.workbench.specs.Picture.{distinct_objects, object_in}
 
 same_to : (x y z : ℕ) → nat_eq y z ≡ true → nat_eq x z ≡ nat_eq x y

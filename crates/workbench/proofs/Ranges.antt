@@ -4,7 +4,7 @@ use Rattle.std.specs.List.{find}
 use Rattle.std.specs.Option.{option_map_or}
 use Rattle.std.proofs.lemmas.Option.{slice_get_within}
 use Rattle.wb_metamodel.specs.Metamodel.{Metamodel, feature_named, feature_at, features_of, same_name}
-use Rattle.wb_metamodel.specs.declared.features.Feature.{Feature}
+use Rattle.wb_ecore.specs.declared.features.Feature.{Feature}
 
 chosen : {X : Type 0} (b : Bool) (y x : X) (rest : Option X) (p : X → Bool) → p y ≡ b → (rest ≡ Some x → p x ≡ true) → cond b (Some y) rest ≡ Some x → p x ≡ true
 chosen true y x rest p is later h = let same : y ≡ x = cc in rw (← same) is

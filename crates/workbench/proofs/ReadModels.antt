@@ -2,10 +2,10 @@
 use Rattle.std.proofs.Common.{◌≡◌, ℕ, List, [], Bool, true, false, cond, ◌==◌, Option, Some, None, Result, Ok, Err, codes, position, nat_eq, ap, sym}
 use Rattle.wb_json.specs.Place.{at_member}
 use Rattle.wb_metamodel.specs.Metamodel.{Metamodel}
-use Rattle.wb_model.specs.Broken.{Breach, broken, miswritten}
-use Rattle.wb_model.specs.Contents.{Contents}
-use Rattle.wb_model.specs.Parts.{made_of}
-use Rattle.wb_model.specs.declared.parts.Part.{Part}
+use Rattle.wb_validity.specs.Broken.{Breach, broken, miswritten}
+use Rattle.wb_store.specs.Contents.{Contents}
+use Rattle.wb_store.specs.Parts.{made_of}
+use Rattle.wb_store.specs.declared.parts.Part.{Part}
 use Rattle.wb_model_json.specs.declared.model_text.ModelText.{ModelText}
 use Rattle.wb_model_json.specs.declared.model_text.ObjectText.{ObjectText}
 use Rattle.wb_model_json.specs.declared.refusal.ModelCode.{ModelCode}

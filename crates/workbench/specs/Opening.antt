@@ -5,7 +5,7 @@ use Rattle.std.specs.FinMap.{len}
 use Rattle.std.specs.Result.{result_ok}
 use Rattle.wb_metamodel.specs.Metamodel.{Metamodel}
 use Rattle.wb_metamodel.specs.Checks.{metamodel}
-use Rattle.wb_model.specs.Contents.{Contents}
+use Rattle.wb_store.specs.Contents.{Contents}
 use Rattle.wb_model_json.specs.ModelFile.{model}
 use Rattle.workbench.specs.declared.status.Status.TheVariants.{Done}
 use Rattle.workbench.specs.declared.answer.Answer.{Answer}

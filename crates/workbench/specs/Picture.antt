@@ -3,11 +3,11 @@ use Rattle.std.specs.Prelude.{ℕ, ◌-◌, ◌<◌, Bool, zero, suc, List, [], 
 use Rattle.std.specs.Option.{option_map_or}
 use Rattle.std.specs.List.{flat_map, filter_map, slice_index_or}
 use Rattle.wb_metamodel.specs.Metamodel.{feature_named, feature_at, first_places}
-use Rattle.wb_metamodel.specs.declared.features.Feature.{Feature}
-use Rattle.wb_model.specs.declared.scalars.Scalar.{Scalar}
-use Rattle.wb_model.specs.declared.scalars.Scalar.TheVariants.{Int, Bool as Boolean, Text, Literal, Object}
-use Rattle.wb_model.specs.Contents.{Contents, kind, slot}
-use Rattle.wb_model.specs.Valid.{conforms_to}
+use Rattle.wb_ecore.specs.declared.features.Feature.{Feature}
+use Rattle.wb_store.specs.declared.scalars.Scalar.{Scalar}
+use Rattle.wb_store.specs.declared.scalars.Scalar.TheVariants.{Int, Bool as Boolean, Text, Literal, Object}
+use Rattle.wb_store.specs.Contents.{Contents, kind, slot}
+use Rattle.wb_validity.specs.Valid.{conforms_to}
 use Rattle.wb_diagram.specs.declared.keys.Pair.{Pair}
 use Rattle.wb_diagram.specs.declared.diagrams.Look.{Look}
 use Rattle.wb_diagram.specs.declared.diagrams.Element.{Element}

@@ -7,9 +7,9 @@ use Rattle.std.specs.Option.{option_map_or}
 use Rattle.std.specs.Result.{result_ok}
 use Rattle.wb_json.specs.Json.{json_of}
 use Rattle.wb_metamodel.specs.Metamodel.{Metamodel, same_name, numbers, class_named, feature_named, feature_at}
-use Rattle.wb_metamodel.specs.declared.features.Feature.{Feature}
-use Rattle.wb_metamodel.specs.declared.features.Kind.{Kind}
-use Rattle.wb_metamodel.specs.declared.features.Kind.TheVariants as kinds
+use Rattle.wb_ecore.specs.declared.features.Feature.{Feature}
+use Rattle.wb_ecore.specs.declared.features.Kind.{Kind}
+use Rattle.wb_ecore.specs.declared.features.Kind.TheVariants as kinds
 use Rattle.workbench.specs.declared.viewpoint.Style.{Style}
 use Rattle.workbench.specs.declared.viewpoint.Mapping.{Mapping}
 use Rattle.workbench.specs.declared.viewpoint.Viewpoint.{Viewpoint}

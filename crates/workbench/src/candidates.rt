@@ -1,5 +1,5 @@
 ghost use Rattle.std.specs.Prelude.{◌≡◌, ◌<◌, filter, length, IfOk};
-ghost use Rattle.wb_model.specs.Valid.{conforms_to};
+ghost use Rattle.wb_validity.specs.Valid.{conforms_to};
 ghost use Rattle.workbench.specs.Picture.{candidates, distinct_objects, object_in, passing_candidates, root_element};
 
 use crate::expressions::feature_values;

@@ -1,6 +1,6 @@
 use Rattle.std.proofs.Common.{sym, ◌∙◌}
 use Rattle.wb_metamodel.specs.Metamodel.{same_name}
-use Rattle.wb_metamodel.specs.declared.features.Feature.{Feature}
+use Rattle.wb_ecore.specs.declared.features.Feature.{Feature}
 use Rattle.wb_aql_check.proofs.Searching.{found_here, not_here}
 use Rattle.wb_aql_check.proofs.known.is_feature.Goals as goal
 

@@ -1,7 +1,7 @@
 use Rattle.std.proofs.Common.{◌≡◌, drop}
 use Rattle.std.specs.List.{list_any}
 use Rattle.wb_metamodel.specs.Metamodel.{same_name}
-use Rattle.wb_metamodel.specs.declared.features.Feature.{Feature}
+use Rattle.wb_ecore.specs.declared.features.Feature.{Feature}
 use Rattle.wb_aql_check.specs.Names.{is_feature}
 use Rattle.wb_aql_check.proofs.known.is_feature.Given as goal
 

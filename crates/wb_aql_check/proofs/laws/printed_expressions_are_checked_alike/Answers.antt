@@ -1,7 +1,7 @@
 use Rattle.std.proofs.Common.{ap}
 use Rattle.wb_aql_syntax.specs.Printed.{printed}
 use Rattle.wb_aql_syntax.proofs.ReadBack.{read_back}
-use Rattle.wb_aql_syntax.proofs.Texts.{text_tree}
+use Rattle.wb_aql_grammar.proofs.Texts.{text_tree}
 use Rattle.wb_aql_check.specs.Names.{first_wrong, knows}
 use Rattle.wb_aql_check.proofs.laws.printed_expressions_are_checked_alike.Goals as goal
 

@@ -1,7 +1,7 @@
 use Rattle.std.proofs.Common.{refl, sym, ap}
 use Rattle.std.specs.Option.{option_map}
-use Rattle.wb_aql_syntax.proofs.Words.{differs}
-use Rattle.wb_aql_syntax.specs.declared.expr.CallKind.TheVariants.{Dot}
+use Rattle.wb_aql_tokens.proofs.Words.{differs}
+use Rattle.wb_aql_grammar.specs.declared.expr.CallKind.TheVariants.{Dot}
 use Rattle.wb_aql_check.specs.Services.{Row, services, service_named}
 use Rattle.wb_aql_check.proofs.Rows.{missed}
 use Rattle.wb_aql_check.proofs.services.named_by_dot.Goals as goal

@@ -1,9 +1,9 @@
 use Rattle.std.proofs.Common.{rules, arith, ◌≡◌, ◌≤◌, ◌+◌, suc, [], ◌∷◌, drop, refl, sym, ap, ◌∙◌, subst}
 use Rattle.std.proofs.lemmas.List.{drop_more, drop_all}
 use Rattle.std.specs.Option.{option_or}
-use Rattle.wb_aql_syntax.specs.View.{tree_of, trees_in, arguments_in}
-use Rattle.wb_aql_syntax.proofs.Nodes.{tree_collection, tree_unary, tree_binary, tree_conditional, tree_let_in, tree_feature, tree_call}
-use Rattle.wb_aql_syntax.proofs.Weights.{weight, elements_weight, arguments_weight, next_element, next_argument}
+use Rattle.wb_aql_grammar.specs.View.{tree_of, trees_in, arguments_in}
+use Rattle.wb_aql_grammar.proofs.Nodes.{tree_collection, tree_unary, tree_binary, tree_conditional, tree_let_in, tree_feature, tree_call}
+use Rattle.wb_aql_grammar.proofs.Weights.{weight, elements_weight, arguments_weight, next_element, next_argument}
 use Rattle.wb_aql_check.specs.Answers.{Refuses}
 use Rattle.wb_aql_check.specs.Names.{first_wrong_element, first_wrong_argument}
 use Rattle.wb_aql_check.specs.Scopes.{names_of}

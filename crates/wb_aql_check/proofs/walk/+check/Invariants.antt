@@ -1,7 +1,7 @@
 -- The nodes below a call are fewer; a call that passes them on unchanged stands above the one that takes them.
 use Rattle.std.proofs.Common.{◌≡◌, ◌∷◌, [], ◌+◌, ◌*◌, drop}
-use Rattle.wb_aql_syntax.specs.View.{tree_of, trees_in, arguments_in}
-use Rattle.wb_aql_syntax.proofs.Weights.{weight, elements_weight, arguments_weight}
+use Rattle.wb_aql_grammar.specs.View.{tree_of, trees_in, arguments_in}
+use Rattle.wb_aql_grammar.proofs.Weights.{weight, elements_weight, arguments_weight}
 use Rattle.wb_aql_check.specs.Names.{first_wrong_element, first_wrong_argument}
 use Rattle.wb_aql_check.specs.Scopes.{names_of}
 use Rattle.wb_aql_check.proofs.walk.+check.Given as goal

@@ -1,7 +1,7 @@
 use Rattle.std.proofs.Common.{◌≡◌, [], map, Ok, Err, sym, ap, subst, ◌∙◌}
-use Rattle.wb_model.specs.declared.scalars.Cell.TheVariants.{Extent}
-use Rattle.wb_model.specs.declared.scalars.Scalar.TheVariants.{Object}
-use Rattle.wb_model.specs.Cells.{extent}
+use Rattle.wb_store.specs.declared.scalars.Cell.TheVariants.{Extent}
+use Rattle.wb_store.specs.declared.scalars.Scalar.TheVariants.{Object}
+use Rattle.wb_store.specs.Cells.{extent}
 use Rattle.wb_aql_values.specs.declared.values.Sort.TheVariants as sort
 use Rattle.wb_aql_values.specs.declared.values.Value.TheVariants.{Sequence, OrderedSet}
 use Rattle.wb_aql_values.specs.Bounds.{IsBounded}

@@ -1,9 +1,9 @@
 use Rattle.std.proofs.Common.{◌≡◌, ◌<◌, length, false, Ok, Some, None, sym, ap, subst, ◌∙◌}
 use Rattle.wb_metamodel.specs.Metamodel.{feature_named, feature_at}
-use Rattle.wb_metamodel.specs.declared.features.Feature.{Feature}
+use Rattle.wb_ecore.specs.declared.features.Feature.{Feature}
 use Rattle.std.specs.Option.{option_map_or}
-use Rattle.wb_model.specs.Contents.{slot}
-use Rattle.wb_model.specs.declared.scalars.Cell.TheVariants.{Slot}
+use Rattle.wb_store.specs.Contents.{slot}
+use Rattle.wb_store.specs.declared.scalars.Cell.TheVariants.{Slot}
 use Rattle.wb_aql_values.specs.Runs.{with_read}
 use Rattle.wb_aql_values.proofs.RunLemmas.{returned}
 use Rattle.wb_aql_eval.specs.Features.{shown}

@@ -1,5 +1,5 @@
 use Rattle.std.proofs.Common.{subst, ◌∙◌}
-use Rattle.wb_model.specs.declared.scalars.Cell.TheVariants.{Tree}
+use Rattle.wb_store.specs.declared.scalars.Cell.TheVariants.{Tree}
 use Rattle.wb_aql_values.specs.Readings.{contents}
 use Rattle.wb_aql_values.specs.Runs.{Gives, run}
 use Rattle.wb_aql_services.specs.Navigation.{e_all_contents, sequence}

@@ -1,5 +1,5 @@
 use Rattle.std.proofs.Common.{◌≡◌, ◌++◌, drop}
-use Rattle.wb_model.specs.Cells.{objects_in}
+use Rattle.wb_store.specs.Cells.{objects_in}
 use Rattle.wb_aql_services.proofs.downwards.push_objects.Given as goal
 
 abbrev pub invariant-loop-value : goal.invariant-loop-value

@@ -1,7 +1,7 @@
 use Rattle.std.proofs.Common.{◌≡◌, ◌++◌, true, false, Ok, sym, ap, ◌∙◌, if◌then◌else◌}
-use Rattle.wb_model.specs.declared.scalars.Cell.TheVariants.{Slot}
-use Rattle.wb_model.specs.Cells.{objects_in}
-use Rattle.wb_model.specs.Contents.{is_containment}
+use Rattle.wb_store.specs.declared.scalars.Cell.TheVariants.{Slot}
+use Rattle.wb_store.specs.Cells.{objects_in}
+use Rattle.wb_store.specs.Contents.{is_containment}
 use Rattle.wb_aql_values.specs.Readings.{contents, done, held, ◌>>=◌}
 use Rattle.wb_aql_values.specs.Runs.{run}
 use Rattle.wb_aql_services.specs.Navigation.{with_slot}

@@ -1,5 +1,5 @@
 use Rattle.std.proofs.Common.{◌≡◌, map, take}
-use Rattle.wb_model.specs.declared.scalars.Scalar.TheVariants.{Object}
+use Rattle.wb_store.specs.declared.scalars.Scalar.TheVariants.{Object}
 use Rattle.wb_aql_services.proofs.sequences.scalars.Given as goal
 
 abbrev pub invariant-loop-o : goal.invariant-loop-o

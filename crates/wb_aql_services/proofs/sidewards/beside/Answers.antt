@@ -1,6 +1,6 @@
 use Rattle.std.proofs.Common.{ℕ, sym, ap, ◌∙◌}
 use Rattle.std.specs.Option.{option_map_or}
-use Rattle.wb_model.specs.declared.scalars.Cell.TheVariants.{Holder, Roots}
+use Rattle.wb_store.specs.declared.scalars.Cell.TheVariants.{Holder, Roots}
 use Rattle.wb_aql_values.specs.Readings.{contents, held}
 use Rattle.wb_aql_values.specs.Runs.{run}
 use Rattle.wb_aql_services.specs.Navigation.{beside, content_of}

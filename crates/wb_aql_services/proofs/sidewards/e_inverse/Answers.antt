@@ -1,7 +1,7 @@
 use Rattle.std.proofs.Common.{◌≡◌, ℕ, [], Ok, Err, map, sym, ap, subst, ◌∙◌}
-use Rattle.wb_model.specs.declared.scalars.Scalar.TheVariants.{Object}
-use Rattle.wb_model.specs.declared.scalars.Cell.TheVariants.{Inverse}
-use Rattle.wb_model.specs.Cells.{inverse}
+use Rattle.wb_store.specs.declared.scalars.Scalar.TheVariants.{Object}
+use Rattle.wb_store.specs.declared.scalars.Cell.TheVariants.{Inverse}
+use Rattle.wb_store.specs.Cells.{inverse}
 use Rattle.wb_aql_values.specs.declared.values.Sort.TheVariants as sort
 use Rattle.wb_aql_values.specs.declared.values.Value.TheVariants.{Sequence, OrderedSet}
 use Rattle.wb_aql_values.specs.Values.{collection, put}

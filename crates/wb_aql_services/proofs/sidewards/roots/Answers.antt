@@ -1,5 +1,5 @@
 use Rattle.std.proofs.Common.{Ok, sym, ◌∙◌}
-use Rattle.wb_model.specs.declared.scalars.Cell.TheVariants.{Roots}
+use Rattle.wb_store.specs.declared.scalars.Cell.TheVariants.{Roots}
 use Rattle.wb_aql_values.specs.Readings.{contents}
 use Rattle.wb_aql_values.proofs.RunLemmas.{run_held}
 use Rattle.wb_aql_services.proofs.sidewards.roots.Goals as goal

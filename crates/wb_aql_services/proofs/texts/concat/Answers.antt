@@ -1,5 +1,5 @@
 use Rattle.std.proofs.Common.{◌++◌, string_bytes, sym, ap, subst}
-use Rattle.wb_model.specs.declared.scalars.Scalar.TheVariants.{Text}
+use Rattle.wb_store.specs.declared.scalars.Scalar.TheVariants.{Text}
 use Rattle.wb_aql_values.specs.declared.values.Value.TheVariants.{One}
 use Rattle.wb_aql_values.specs.Readings.{contents, done, given, ◌>>=◌}
 use Rattle.wb_aql_values.specs.Runs.{run}

@@ -3,7 +3,7 @@ use Rattle.wb_aql_values.specs.Readings.{contents, done}
 use Rattle.wb_aql_values.specs.Runs.{run}
 use Rattle.wb_aql_values.proofs.RunLemmas.{returned}
 use Rattle.wb_aql_services.proofs.FirstLooks.{first_none, first_stopped, first_next}
-use Rattle.wb_model.specs.declared.scalars.Scalar.TheVariants.{Object}
+use Rattle.wb_store.specs.declared.scalars.Scalar.TheVariants.{Object}
 use Rattle.wb_aql_values.specs.declared.values.Value.TheVariants.{Null, One}
 use Rattle.wb_aql_services.specs.Types.{as_type, conforms_to}
 use Rattle.wb_aql_services.proofs.types.as_type.Goals as goal

@@ -1,16 +1,16 @@
 use Rattle.std.proofs.Common.{rules, arith, ◌≡◌, ◌≤◌, ◌+◌, suc, [], ◌∷◌, ◌++◌, true, false, drop, string_bytes, refl, sym, ap, ◌∙◌, subst}
 use Rattle.std.proofs.lemmas.List.{drop_more, drop_all}
 use Rattle.std.proofs.lemmas.Result.{on_ok_weaker}
-use Rattle.wb_aql_syntax.specs.Tree as tree
-use Rattle.wb_aql_syntax.specs.View.{tree_of, trees_in, arguments_in}
+use Rattle.wb_aql_grammar.specs.Tree as tree
+use Rattle.wb_aql_grammar.specs.View.{tree_of, trees_in, arguments_in}
 use Rattle.wb_aql_syntax.specs.Canonical.{blank, token, mark, apart, prefix, comma_if, enclosed, standing, stands, tightness, pieces, element_pieces, argument_pieces}
 use Rattle.wb_aql_syntax.specs.Printed.{bytes_in, Wrote}
-use Rattle.wb_aql_syntax.specs.declared.token.Token.TheVariants.{Name}
-use Rattle.wb_aql_syntax.specs.declared.token.Sign.TheVariants as s
+use Rattle.wb_aql_tokens.specs.declared.token.Token.TheVariants.{Name}
+use Rattle.wb_aql_tokens.specs.declared.token.Sign.TheVariants as s
 use Rattle.wb_aql_syntax.specs.declared.tightness.Tightness.TheVariants as at
-use Rattle.wb_aql_syntax.proofs.Nodes.{tree_integer, tree_text, tree_constant, tree_variable, tree_literal, tree_collection, tree_unary, tree_binary, tree_conditional, tree_let_in, tree_feature, tree_call}
+use Rattle.wb_aql_grammar.proofs.Nodes.{tree_integer, tree_text, tree_constant, tree_variable, tree_literal, tree_collection, tree_unary, tree_binary, tree_conditional, tree_let_in, tree_feature, tree_call}
 use Rattle.wb_aql_syntax.proofs.Forms.{pieces_integer, pieces_text, pieces_constant, pieces_variable, pieces_unary, pieces_binary, pieces_if, pieces_let, pieces_feature, pieces_call, pieces_collection, no_element_pieces, element_pieces_behind, no_argument_pieces, lambda_pieces, type_pieces, expression_pieces, argument_pieces_behind}
-use Rattle.wb_aql_syntax.proofs.Weights.{weight, elements_weight, arguments_weight, next_element, next_argument}
+use Rattle.wb_aql_grammar.proofs.Weights.{weight, elements_weight, arguments_weight, next_element, next_argument}
 use Rattle.wb_aql_syntax.proofs.Writing.{two, three, one_more, no_more}
 use Rattle.wb_aql_syntax.proofs.printer.+printer.Goals as goal
 

@@ -1,9 +1,9 @@
 -- The nodes below a call are fewer; a call that passes them on unchanged stands above the one that takes them.
 use Rattle.std.proofs.Common.{◌≡◌, ◌++◌, ◌∷◌, [], false, string_bytes, ◌+◌, ◌*◌, drop}
-use Rattle.wb_aql_syntax.specs.View.{tree_of, trees_in, arguments_in}
+use Rattle.wb_aql_grammar.specs.View.{tree_of, trees_in, arguments_in}
 use Rattle.wb_aql_syntax.specs.Canonical.{element_pieces, argument_pieces}
 use Rattle.wb_aql_syntax.specs.Printed.{bytes_in}
-use Rattle.wb_aql_syntax.proofs.Weights.{weight, elements_weight, arguments_weight}
+use Rattle.wb_aql_grammar.proofs.Weights.{weight, elements_weight, arguments_weight}
 use Rattle.wb_aql_syntax.proofs.printer.+printer.Given as goal
 
 abbrev pub decreases-write_bare : goal.decreases-write_bare

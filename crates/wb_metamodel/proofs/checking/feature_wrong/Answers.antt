@@ -5,7 +5,7 @@ use Rattle.std.specs.Option.{option_map_or}
 use Rattle.std.proofs.lemmas.Option.{slice_get-get_or}
 use Rattle.wb_json.specs.Place.{Place, at_member, at_index}
 use Rattle.wb_json.specs.Form.{Gives}
-use Rattle.wb_metamodel.specs.declared.features.Feature.{Feature}
+use Rattle.wb_ecore.specs.declared.features.Feature.{Feature}
 use Rattle.wb_metamodel.specs.Metamodel.{Metamodel}
 use Rattle.wb_metamodel.specs.Checks.{wrong_feature}
 use Rattle.wb_metamodel.proofs.checking.feature_wrong.Goals as goal

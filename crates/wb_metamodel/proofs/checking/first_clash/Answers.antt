@@ -1,6 +1,6 @@
 use Rattle.std.proofs.Common.{length, sym, ◌∙◌, arith}
 use Rattle.wb_metamodel.specs.Checks.{has_clash}
-use Rattle.wb_metamodel.proofs.Taken.{find-on}
+use Rattle.wb_ecore.proofs.Taken.{find-on}
 use Rattle.wb_metamodel.proofs.checking.first_clash.Goals as goal
 
 pub loop-class-preserved : goal.loop-class-preserved

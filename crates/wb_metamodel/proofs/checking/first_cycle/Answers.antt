@@ -1,7 +1,7 @@
 use Rattle.std.proofs.Common.{◌≡◌, false, length, get_or, subst, sym, ap, ◌∙◌, arith}
 use Rattle.wb_metamodel.specs.Metamodel.{is_below}
 use Rattle.wb_metamodel.proofs.TableLemmas.{length-below_table, length-below_row, below_read}
-use Rattle.wb_metamodel.proofs.Taken.{find-on, find-here, find-done}
+use Rattle.wb_ecore.proofs.Taken.{find-on, find-here, find-done}
 use Rattle.wb_metamodel.proofs.checking.first_cycle.Goals as goal
 
 pub bounds-as_slice-class : goal.bounds-as_slice-class

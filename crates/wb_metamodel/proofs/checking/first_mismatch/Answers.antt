@@ -2,9 +2,9 @@ use Rattle.std.proofs.Common.{length, refl, sym, ap, ◌∙◌, false, arith}
 use Rattle.std.specs.List.{slice_get}
 use Rattle.std.specs.Option.{option_map_or}
 use Rattle.std.proofs.lemmas.Option.{slice_get_read}
-use Rattle.wb_metamodel.specs.declared.features.Feature.{Feature}
+use Rattle.wb_ecore.specs.declared.features.Feature.{Feature}
 use Rattle.wb_metamodel.specs.Checks.{has_mismatch, is_mismatched}
-use Rattle.wb_metamodel.proofs.Taken.{find-on}
+use Rattle.wb_ecore.proofs.Taken.{find-on}
 use Rattle.wb_metamodel.proofs.checking.first_mismatch.Goals as goal
 
 pub loop-number-preserved : goal.loop-number-preserved

@@ -3,7 +3,7 @@ use Rattle.std.specs.Prelude.{All}
 use Rattle.std.specs.List.{list_any}
 use Rattle.wb_metamodel.specs.Metamodel.{features_of}
 use Rattle.wb_metamodel.specs.Tables.{is_other, HasRow}
-use Rattle.wb_metamodel.proofs.Zips.{zip-length}
+use Rattle.wb_ecore.proofs.Zips.{zip-length}
 use Rattle.wb_metamodel.proofs.TableLemmas.{length-features_table, features_read}
 use Rattle.wb_metamodel.proofs.ByName.{clash-same, length-places, places-known, features-known, reads-names, row-length}
 use Rattle.wb_metamodel.proofs.checking.has_clash.Goals as goal

@@ -1,6 +1,6 @@
 use Rattle.std.proofs.Common.{◌≡◌, ◌-◌, ◌<◌, List, [], length, map, get_or, sym, ap, ◌∙◌, arith}
 use Rattle.std.specs.List.{range_with_len}
-use Rattle.wb_metamodel.specs.declared.classes.Class.{Class}
+use Rattle.wb_ecore.specs.declared.classes.Class.{Class}
 use Rattle.wb_metamodel.specs.Metamodel.{leads_through}
 use Rattle.wb_metamodel.specs.Tables.{table_of, direct_row, widened}
 use Rattle.wb_metamodel.proofs.Warshall.{direct-table, length-table, through-table, leads-table, ranged, at_last}

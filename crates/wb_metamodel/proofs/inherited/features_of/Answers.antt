@@ -3,7 +3,7 @@ use Rattle.std.specs.List.{flat_map, list_any, slice_get}
 use Rattle.std.specs.Option.{option_map_or}
 use Rattle.std.specs.Result.{IfOk}
 use Rattle.std.proofs.lemmas.Option.{slice_get-get_or}
-use Rattle.wb_metamodel.specs.declared.classes.Class.{Class}
+use Rattle.wb_ecore.specs.declared.classes.Class.{Class}
 use Rattle.wb_metamodel.specs.Metamodel.{own_features, supertypes_of, first_places}
 use Rattle.wb_metamodel.specs.Inherited.{all_features}
 use Rattle.wb_metamodel.proofs.Inherit.{member-at}

@@ -1,5 +1,5 @@
 use Rattle.std.proofs.Common.{Ok, sym, ap, ◌∙◌, arith}
-use Rattle.wb_metamodel.specs.declared.refusal.MetamodelCode.TheVariants.{SupertypeCycle}
+use Rattle.wb_ecore.specs.declared.refusal.MetamodelCode.TheVariants.{SupertypeCycle}
 use Rattle.wb_metamodel.specs.Checks.{no_cycle}
 use Rattle.wb_metamodel.proofs.Wholes.{coded_ok, known, hierarchy-from, passed, check-ok, check-refused}
 use Rattle.wb_metamodel.proofs.reading.checked.Goals as goal

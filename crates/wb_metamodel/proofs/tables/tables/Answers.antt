@@ -1,11 +1,11 @@
 use Rattle.std.proofs.Common.{◌≡◌, ◌<◌, ℕ, List, length, map, sym, ap, ◌∙◌, subst}
 use Rattle.std.specs.Prelude.{All, unwrap_or}
 use Rattle.std.specs.List.{AllZip, position}
-use Rattle.wb_metamodel.specs.declared.classes.Class.{Class}
-use Rattle.wb_metamodel.specs.declared.classes.Enumeration.{Enumeration}
-use Rattle.wb_metamodel.specs.declared.features.Feature.{Feature}
+use Rattle.wb_ecore.specs.declared.classes.Class.{Class}
+use Rattle.wb_ecore.specs.declared.classes.Enumeration.{Enumeration}
+use Rattle.wb_ecore.specs.declared.features.Feature.{Feature}
 use Rattle.wb_metamodel.specs.Metamodel.{same_name}
-use Rattle.wb_metamodel.specs.Names.{number_of}
+use Rattle.wb_ecore.specs.Names.{number_of}
 use Rattle.wb_metamodel.specs.Tables.{LiteralPlaces, HasRow, feature_place, features_table}
 use Rattle.wb_metamodel.proofs.Warshall.{map-same}
 use Rattle.wb_metamodel.proofs.ByName.{places_of, length-places, places-known, features-known, row-features, by-name}

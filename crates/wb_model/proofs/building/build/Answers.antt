@@ -1,13 +1,13 @@
 use Rattle.std.proofs.Common.{◌≡◌, ◌∙◌, sym, ap, subst, true, Err, List}
 use Rattle.std.proofs.lemmas.List.Folds.{list_all-map}
 use Rattle.std.specs.List.Sorted.{IsPermutation}
-use Rattle.wb_model.specs.declared.parts.Part.{Part}
-use Rattle.wb_model.specs.declared.parts.BuildRefusal.{BuildRefusal}
-use Rattle.wb_model.specs.Broken.{broken, miswritten}
-use Rattle.wb_model.specs.Contents.{Contents}
-use Rattle.wb_model.specs.Flaws.{Names}
-use Rattle.wb_model.specs.Parts.{made_of, record_of, are_known, MakeModel, Refutes}
-use Rattle.wb_model.specs.Records.{is_known}
+use Rattle.wb_store.specs.declared.parts.Part.{Part}
+use Rattle.wb_model.specs.declared.building.BuildRefusal.{BuildRefusal}
+use Rattle.wb_validity.specs.Broken.{broken, miswritten}
+use Rattle.wb_store.specs.Contents.{Contents}
+use Rattle.wb_model.specs.Building.{Names, MakeModel, Refutes}
+use Rattle.wb_store.specs.Parts.{made_of, record_of, are_known}
+use Rattle.wb_store.specs.Records.{is_known}
 use Rattle.wb_model.proofs.Made.{made_valid, made_model, model_whole, same_breach, names, refutes}
 use Rattle.wb_model.proofs.building.build.Goals as goal
 

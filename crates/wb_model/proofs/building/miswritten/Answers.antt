@@ -2,11 +2,11 @@ use Rattle.std.proofs.Common.{◌≡◌, ◌∙◌, sym, subst, true, List}
 use Rattle.std.proofs.lemmas.Bool.{and_parts}
 use Rattle.std.proofs.lemmas.List.Folds.{list_all-map}
 use Rattle.std.specs.List.{list_all}
-use Rattle.wb_model.specs.declared.parts.Part.{Part}
-use Rattle.wb_model.specs.declared.parts.SlotPart.{SlotPart}
-use Rattle.wb_model.specs.Parts.{slot_of, record_of}
-use Rattle.wb_model.specs.Records.{is_known, is_known_slot}
-use Rattle.wb_model.proofs.Found.{all_at}
+use Rattle.wb_store.specs.declared.parts.Part.{Part}
+use Rattle.wb_store.specs.declared.parts.SlotPart.{SlotPart}
+use Rattle.wb_store.specs.Parts.{slot_of, record_of}
+use Rattle.wb_store.specs.Records.{is_known, is_known_slot}
+use Rattle.wb_store.proofs.Found.{all_at}
 use Rattle.wb_model.proofs.building.miswritten.Goals as goal
 
 pub slots_are_listed-requires : goal.slots_are_listed-requires

@@ -1,5 +1,5 @@
 use Rattle.std.proofs.Common.{◌≡◌, ◌++◌, drop}
-use Rattle.wb_model.specs.Broken.{miswritten}
+use Rattle.wb_validity.specs.Broken.{miswritten}
 use Rattle.wb_model.proofs.building.miswritten.Given as goal
 
 abbrev pub invariant-loop-part : goal.invariant-loop-part

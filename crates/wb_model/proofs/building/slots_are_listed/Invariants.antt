@@ -1,6 +1,6 @@
 use Rattle.std.proofs.Common.{◌≡◌, drop}
 use Rattle.std.specs.List.{list_all}
-use Rattle.wb_model.specs.Parts.{is_listed_slot}
+use Rattle.wb_store.specs.Parts.{is_listed_slot}
 use Rattle.wb_model.proofs.building.slots_are_listed.Given as goal
 
 abbrev pub invariant-loop-slot : goal.invariant-loop-slot

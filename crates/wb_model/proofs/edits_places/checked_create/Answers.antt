@@ -1,5 +1,5 @@
 use Rattle.std.proofs.Common.{◌∙◌, ap, sym}
-use Rattle.wb_model.specs.declared.scalars.Place.TheVariants.{In}
+use Rattle.wb_store.specs.declared.scalars.Place.TheVariants.{In}
 use Rattle.wb_model.specs.Edits.{unless, refusals_of_place, refusal_of_create}
 use Rattle.wb_model.specs.EditChecks.{refusals_of_new}
 use Rattle.wb_model.proofs.EditedLemmas.{unless_first}

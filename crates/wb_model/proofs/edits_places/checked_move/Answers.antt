@@ -1,7 +1,7 @@
 use Rattle.std.proofs.Common.{◌∷◌, []}
 use Rattle.wb_model.specs.declared.refusals.ModelRefusal.TheVariants.{ContainmentCycle}
-use Rattle.wb_model.specs.Cells.{tree}
-use Rattle.wb_model.specs.Edits.{is_among}
+use Rattle.wb_store.specs.Cells.{tree}
+use Rattle.wb_store.specs.Relinking.{is_among}
 use Rattle.wb_model.specs.EditChecks.{refusals_before_cycle}
 use Rattle.wb_model.proofs.EditedLemmas.{tells_first}
 use Rattle.wb_model.proofs.edits_places.checked_move.Goals as goal

@@ -1,5 +1,5 @@
 use Rattle.std.proofs.Common.{sym, subst}
-use Rattle.wb_model.specs.Valid.{IsValid}
+use Rattle.wb_validity.specs.Valid.{IsValid}
 use Rattle.wb_model.proofs.EmptyContents.{empty-IsValid}
 use Rattle.wb_model.proofs.model.empty.Goals as goal
 

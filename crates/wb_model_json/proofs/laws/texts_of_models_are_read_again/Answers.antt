@@ -1,4 +1,4 @@
-use Rattle.wb_model.specs.Valid.{IsValid}
+use Rattle.wb_validity.specs.Valid.{IsValid}
 use Rattle.wb_model_json.specs.Written.{text_of}
 use Rattle.wb_model_json.proofs.SayableModels.{text-spells}
 use Rattle.wb_model_json.proofs.WrittenModels.{read-again}

@@ -1,7 +1,7 @@
 use Rattle.std.proofs.Common.{drop}
 use Rattle.std.specs.List.{enumerate_from}
 use Rattle.wb_json.proofs.Turns.{Goes}
-use Rattle.wb_metamodel.specs.Resolving.{in_place, walked}
+use Rattle.wb_ecore.specs.Resolving.{in_place, walked}
 use Rattle.wb_model_json.specs.ModelFile.{part_for}
 use Rattle.wb_model_json.proofs.parts.parts.Given as goal
 

@@ -1,6 +1,6 @@
 use Rattle.std.proofs.Common.{◌≡◌, true, take}
 use Rattle.std.specs.List.{list_all}
-use Rattle.wb_model.specs.Contents.{slot}
+use Rattle.wb_store.specs.Contents.{slot}
 use Rattle.wb_model_json.specs.Sayable.{is_sayable}
 use Rattle.wb_model_json.proofs.sayable.slots_are_sayable.Given as goal
 

@@ -1,5 +1,5 @@
 use Rattle.std.proofs.Common.{◌≡◌, take, filter}
-use Rattle.wb_model.specs.Valid.{conforms_to}
+use Rattle.wb_validity.specs.Valid.{conforms_to}
 use Rattle.workbench.proofs.candidates.passing.Given as goal
 
 abbrev pub invariant-loop-number : goal.invariant-loop-number

@@ -1,6 +1,6 @@
 use Rattle.std.proofs.Common.{◌≡◌, Bool, List, [], ◌∷◌, ◌++◌, ap, ◌∙◌, if◌then◌else◌}
 use Rattle.std.specs.List.{list_any}
-use Rattle.wb_model.specs.declared.scalars.Cell.{Cell}
+use Rattle.wb_store.specs.declared.scalars.Cell.{Cell}
 use Rattle.wb_aql_values.specs.Runs.{with_read}
 use Rattle.wb_aql_values.proofs.CellLemmas.{same_cells}
 use Rattle.wb_aql_values.proofs.reads.Reads.note.Goals as goal

@@ -3,7 +3,7 @@ use Rattle.std.specs.List.{sum_by, slice_get}
 use Rattle.std.specs.Option.{option_map_or}
 use Rattle.std.proofs.lemmas.List.Sums.{get_or-le-sum_by}
 use Rattle.std.proofs.lemmas.Option.{slice_get-get_or}
-use Rattle.wb_metamodel.specs.declared.classes.Enumeration.{Enumeration}
+use Rattle.wb_ecore.specs.declared.classes.Enumeration.{Enumeration}
 use Rattle.wb_metamodel.specs.Metamodel as definition
 use Rattle.wb_metamodel.specs.WellFormed.{IsWellFormed}
 use Rattle.wb_metamodel.proofs.metamodel.Metamodel.literal_count.Goals as goal

@@ -2,10 +2,10 @@ use Rattle.std.proofs.Common.{◌≡◌, ◌<◌, ℕ, List, [], ◌∷◌, zero
 use Rattle.std.specs.List.{slice_get, position}
 use Rattle.std.specs.Option.{option_and_then}
 use Rattle.std.proofs.lemmas.Option.{slice_get_read}
-use Rattle.wb_metamodel.specs.declared.classes.Enumeration.{Enumeration}
+use Rattle.wb_ecore.specs.declared.classes.Enumeration.{Enumeration}
 use Rattle.wb_metamodel.specs.Metamodel as definition
 use Rattle.wb_metamodel.specs.Tables.{PlacesOf}
-use Rattle.wb_metamodel.proofs.Zips.{zip-length, zip-at}
+use Rattle.wb_ecore.proofs.Zips.{zip-length, zip-at}
 use Rattle.wb_metamodel.proofs.metamodel.Metamodel.literal_named.Goals as goal
 
 pub bounds-as_slice-e-inside : goal.bounds-as_slice-e-inside

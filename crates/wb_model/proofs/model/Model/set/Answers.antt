@@ -9,4 +9,4 @@ pub invariant_of-self : goal.invariant_of-self
 invariant_of-self c =
     let m = c.self.inside.store in
     let well = subst WellFormed c.metamodel.ensures c.well_formed-2.ensures in
-    edited_valid c.set.result (set m c.args.o c.args.f c.args.value) m c.set.new.self c.set.ensures c.self.invariant (λ n e. kept_set m n c.args.o c.args.f c.args.value well c.self.invariant e)
+    edited_valid c.set.result (set m c.args.o c.args.f c.args.value) m c.set.new.store c.set.ensures c.self.invariant (λ n e. kept_set m n c.args.o c.args.f c.args.value well c.self.invariant e)

@@ -9,4 +9,4 @@ pub invariant_of-self : goal.invariant_of-self
 invariant_of-self c =
     let m = c.self.inside.store in
     let well = subst WellFormed c.metamodel.ensures c.well_formed-2.ensures in
-    edited_valid c.take.result (take_out m c.args.o c.args.f c.args.value.now) m c.take.new.self c.take.ensures c.self.invariant (λ n e. kept_take m n c.args.o c.args.f c.args.value.now well c.self.invariant e)
+    edited_valid c.take.result (take_out m c.args.o c.args.f c.args.value.now) m c.take.new.store c.take.ensures c.self.invariant (λ n e. kept_take m n c.args.o c.args.f c.args.value.now well c.self.invariant e)

@@ -9,4 +9,4 @@ pub invariant_of-self : goal.invariant_of-self
 invariant_of-self c =
     let m = c.self.inside.store in
     let well = subst WellFormed c.metamodel.ensures c.well_formed-2.ensures in
-    edited_valid c.unset.result (unset m c.args.o c.args.f) m c.unset.new.self c.unset.ensures c.self.invariant (λ n e. kept_unset m n c.args.o c.args.f well c.self.invariant e)
+    edited_valid c.unset.result (unset m c.args.o c.args.f) m c.unset.new.store c.unset.ensures c.self.invariant (λ n e. kept_unset m n c.args.o c.args.f well c.self.invariant e)

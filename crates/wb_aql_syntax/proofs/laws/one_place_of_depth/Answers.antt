@@ -1,5 +1,0 @@
-use Rattle.wb_aql_syntax.proofs.Unique.{one_deep}
-use Rattle.wb_aql_syntax.proofs.laws.one_place_of_depth.Goals as goal
-
-pub returns : goal.returns
-returns c = one_deep

@@ -1,5 +1,0 @@
-use Rattle.wb_aql_syntax.proofs.Unique.{one_syntax}
-use Rattle.wb_aql_syntax.proofs.laws.one_place_of_syntax.Goals as goal
-
-pub returns : goal.returns
-returns c = one_syntax

@@ -1,7 +1,0 @@
-use Rattle.std.proofs.Common.{sym, subst}
-use Rattle.wb_aql_syntax.specs.Lexes.{NoToken}
-use Rattle.wb_aql_syntax.proofs.Spellings.{no_token}
-use Rattle.wb_aql_syntax.proofs.lexer.next_token.Goals as goal
-
-pub returns-in-None : goal.returns-in-None
-returns-in-None c = subst NoToken (sym c.in-None.ensures) no_token

@@ -1,5 +1,0 @@
-use Rattle.wb_aql_syntax.proofs.OneLexing.{one_text}
-use Rattle.wb_aql_syntax.proofs.lexer_laws.one_lexing.Goals as goal
-
-pub returns : goal.returns
-returns c = λ offset text tokens others starts places d e. one_text d others places e

@@ -1,5 +1,0 @@
-use Rattle.wb_aql_syntax.proofs.Apart.{spelled_first}
-use Rattle.wb_aql_syntax.proofs.lexer_laws.token_stands_first.Goals as goal
-
-pub returns : goal.returns
-returns c = spelled_first

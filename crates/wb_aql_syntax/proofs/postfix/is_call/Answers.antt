@@ -1,7 +1,0 @@
-use Rattle.std.proofs.Common.{sym, subst}
-use Rattle.wb_aql_syntax.specs.Reading.{Names}
-use Rattle.wb_aql_syntax.proofs.Picks.{names_dot}
-use Rattle.wb_aql_syntax.proofs.postfix.is_call.Goals as goal
-
-pub returns-in-Dot : goal.returns-in-Dot
-returns-in-Dot c = subst (λ k. Names c.is_next.result k c.args.tokens.now) (sym c.in-Dot.is) (names_dot _ _ c.is_next.ensures)

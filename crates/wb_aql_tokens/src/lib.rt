@@ -1,0 +1,18 @@
+//! The tokens of the expression language: the bytes that spell each, and how a text falls into them.
+#![tactic(auto)]
+
+mod characters;
+mod lexer;
+mod lexer_laws;
+mod quotes;
+mod signs;
+mod token;
+
+pub use lexer::{Lexed, tokens_of};
+pub use lexer_laws::{
+    each_token_starts, one_lexing, token_stands_behind_space, token_stands_first, tokens_are_within,
+};
+pub use token::{Sign, Token};
+
+#[cfg(test)]
+mod lexer_tests;

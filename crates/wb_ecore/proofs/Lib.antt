@@ -1,0 +1,5 @@
+pub mod NameLemmas
+pub mod Numbered
+pub mod Positions
+pub mod Taken
+pub mod Zips

@@ -1,9 +1,0 @@
-use Rattle.std.proofs.Common.{◌≡◌, ℕ, drop, map}
-use Rattle.std.specs.Option.{option_map}
-use Rattle.std.specs.List.{find}
-use Rattle.wb_model.specs.Broken.{least, breaks}
-use Rattle.wb_model.specs.Records.{kind_entry}
-use Rattle.wb_model.proofs.conditions.breaking_object.Given as goal
-
-abbrev pub invariant-loop-record : goal.invariant-loop-record
-invariant-loop-record l = option_map (λ (e : ℕ × ℕ). e.0) (find (λ (e : ℕ × ℕ). breaks l.store l.condition e.0) (map kind_entry (drop l.record-index l.record-items))) ≡ least l.store (λ o c. breaks l.store l.condition o)

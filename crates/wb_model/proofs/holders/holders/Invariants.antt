@@ -1,6 +1,0 @@
-use Rattle.std.proofs.Common.{take}
-use Rattle.wb_model.specs.Links.{AreHolders}
-use Rattle.wb_model.proofs.holders.holders.Given as goal
-
-abbrev pub invariant-loop-link : goal.invariant-loop-link
-invariant-loop-link l = AreHolders l.records (take l.link-index l.links) l.first.items l.twice.items

@@ -1,6 +1,0 @@
-use Rattle.std.proofs.Common.{◌≡◌, ◌++◌, drop}
-use Rattle.wb_model.specs.Links.{links_of}
-use Rattle.wb_model.proofs.links.containment_links.Given as goal
-
-abbrev pub invariant-loop-record : goal.invariant-loop-record
-invariant-loop-record l = l.links.items ++ links_of l.metamodel (drop l.record-index l.records) ≡ links_of l.metamodel l.records

@@ -1,7 +1,0 @@
-use Rattle.std.proofs.Common.{◌≡◌, ◌++◌, drop}
-use Rattle.std.specs.List.{flat_map}
-use Rattle.wb_model.specs.Links.{link}
-use Rattle.wb_model.proofs.links.push_values.Given as goal
-
-abbrev pub invariant-loop-value : goal.invariant-loop-value
-invariant-loop-value l = l.links.items ++ flat_map (link l.container l.feature) (drop l.value-index l.values) ≡ l.fn.links.items ++ flat_map (link l.container l.feature) l.values

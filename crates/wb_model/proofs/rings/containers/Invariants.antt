@@ -1,5 +1,0 @@
-use Rattle.wb_model.proofs.RingLemmas.{Placed}
-use Rattle.wb_model.proofs.rings.containers.Given as goal
-
-abbrev pub invariant-loop-at : goal.invariant-loop-at
-invariant-loop-at l = Placed l.store l.records l.at l.above.items

@@ -1,5 +1,0 @@
-use Rattle.wb_model.proofs.RingLemmas.{Meeting}
-use Rattle.wb_model.proofs.rings.met_places.Given as goal
-
-abbrev pub invariant-loop-place : goal.invariant-loop-place
-invariant-loop-place l = Meeting l.above l.place-index l.met.items

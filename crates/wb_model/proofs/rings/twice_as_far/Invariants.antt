@@ -1,6 +1,0 @@
-use Rattle.std.proofs.Common.{◌≡◌, take, map}
-use Rattle.wb_model.specs.Rings.{beyond}
-use Rattle.wb_model.proofs.rings.twice_as_far.Given as goal
-
-abbrev pub invariant-loop-place : goal.invariant-loop-place
-invariant-loop-place l = l.further.items ≡ map (beyond l.above) (take l.place-index l.above)

@@ -1,6 +1,0 @@
-use Rattle.std.proofs.Common.{◌≡◌, ◌++◌, drop}
-use Rattle.wb_model.specs.Cells.{objects_in}
-use Rattle.wb_model.proofs.tree.push_objects.Given as goal
-
-abbrev pub invariant-loop-value : goal.invariant-loop-value
-invariant-loop-value l = l.objects.items ++ objects_in (drop l.value-index l.values) ≡ l.fn.objects.items ++ objects_in l.values

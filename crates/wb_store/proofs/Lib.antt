@@ -1,0 +1,17 @@
+pub mod ArrangedLemmas
+pub mod Filtered
+pub mod Found
+pub mod Growing
+pub mod HolderLemmas
+pub mod Maps
+pub mod Members
+pub mod ObjectSets
+pub mod Placed
+pub mod RecordLemmas
+pub mod Relinked
+pub mod Relinks
+pub mod Removing
+pub mod Shown
+pub mod SlotLemmas
+pub mod Steps
+pub mod Without

@@ -1,0 +1,12 @@
+use Rattle.std.proofs.Common.{◌<◌, ◌∙◌, arith, length, set}
+use Rattle.std.proofs.lemmas.List.Edits.{map_over_more}
+use Rattle.wb_store.specs.Removals.{slot_left}
+use Rattle.wb_store.proofs.removals.drop_from_each.Goals as goal
+
+pub loop-i-preserved : goal.loop-i-preserved
+loop-i-preserved c =
+    let old = c.args.slots.now.items in
+    let x = c.index_mut.result.now in
+    let within : c.loop-i.i < length old = omega (arith, c.loop-i-test.true, c.len-i-end.ensures, c.args.slots.now.ok.0) in
+    (λ j. set c.loop-i.slots.items c.loop-i.i (record { feature = x.feature; values = c.drop_from_values.ensures j }))
+    ∙ map_over_more (slot_left c.args.dead.now) old c.loop-i.slots.items c.loop-i.i x within c.loop-i.invariant c.index_mut.ensures.value

@@ -1,0 +1,10 @@
+pub mod Breaches
+pub mod Climbing
+pub mod Findings
+pub mod LinkLemmas
+pub mod Marked
+pub mod RingLemmas
+pub mod RootLemmas
+pub mod Trees
+pub mod ValidSlots
+pub mod ValidTest

@@ -1,0 +1,267 @@
+ghost use Rattle.std.specs.Prelude.{◌≡◌, ◌<◌, ◌&&◌, ◌||◌, length, not, nat_eq, true};
+ghost use Rattle.std.specs.List.{list_all, list_any, flat_map};
+ghost use Rattle.wb_metamodel.specs.WellFormed.{KindIsKnown};
+ghost use Rattle.wb_validity.specs.Broken.{least, breaks, is_crowded, is_misnumbered};
+ghost use Rattle.wb_store.specs.Contents.{members};
+ghost use Rattle.wb_validity.specs.Conditions.{meets};
+ghost use Rattle.wb_store.specs.Records.{is_known_slot, slot_entries, slot_entry};
+ghost use Rattle.wb_store.specs.Features.{opposite};
+ghost use Rattle.wb_validity.specs.Valid.{is_abstract, is_of_class, room, is_of_kind, is_integer, is_boolean, is_text, is_literal, is_instance, conforms_to, is_of_feature, differ, holds_back, is_held_back};
+
+use wb_metamodel::{ClassId, EnumId, FeatureId, Kind, Metamodel, ObjectId};
+use wb_store::{ObjectSet, Record, Scalar, Slot, Store, has_object};
+
+/// A condition that speaks of one slot at a time.
+#[derive(Clone, Copy)]
+pub enum Condition {
+    /// The slot is of a feature of its object's class.
+    OfClass,
+    /// The slot has no more values than its feature may have.
+    HasRoom,
+    /// The values are of the feature's kind.
+    OfKinds,
+    /// No value stands twice.
+    Differ,
+    /// The objects in the slot of a feature with an opposite hold the slot's object back.
+    HeldBack,
+}
+
+/// The least object that has a slot which does not meet the condition.
+pub fn breaking_object(store: &Store, condition: Condition) -> Option<ObjectId>
+    ensures { result ≡ least store.now (λ o c. breaks store.now condition o) }
+{
+    for record in store.records() {
+        if !slots_meet(store, condition, record.id, record.slots.as_slice()) {
+            return Some(record.id);
+        }
+    }
+    None
+}
+
+/// The least object that is one of these, or has a slot with more values than there is room for.
+pub fn crowded_object(store: &Store, wrong: &ObjectSet) -> Option<ObjectId>
+    ensures { result ≡ least store.now (λ o c. is_crowded store.now wrong.now o) }
+{
+    for record in store.records() {
+        if is_crowded(store, wrong, record) {
+            return Some(record.id);
+        }
+    }
+    None
+}
+
+fn is_crowded(store: &Store, wrong: &ObjectSet, record: &Record) -> bool
+    requires { list_all (is_known_slot store.now.metamodel) record.now.slots ≡ true }
+    ensures { result ≡ (list_any (λ p. nat_eq p record.now.id) wrong.now || not (list_all (λ e. meets store.now Condition.HasRoom e.0.0 e.0.1 (members e.1)) (slot_entries record.now))) }
+{
+    if wrong.contains(record.id) {
+        true
+    } else {
+        !slots_meet(
+            store,
+            Condition::HasRoom,
+            record.id,
+            record.slots.as_slice(),
+        )
+    }
+}
+
+// Do all slots of an object that are not empty meet the condition?
+fn slots_meet(store: &Store, condition: Condition, o: ObjectId, slots: &[Slot]) -> bool
+    requires { list_all (is_known_slot store.now.metamodel) slots.now ≡ true }
+    ensures { result ≡ list_all (λ e. meets store.now condition e.0.0 e.0.1 (members e.1)) (flat_map (slot_entry o) slots.now) }
+{
+    for slot in slots {
+        let values = slot.values.as_slice();
+        if !values.is_empty() && !meets(store, condition, o, slot.feature, values) {
+            return false;
+        }
+    }
+    true
+}
+
+fn meets(store: &Store, condition: Condition, o: ObjectId, f: FeatureId, values: &[Scalar]) -> bool
+    requires { f < length store.now.metamodel.features }
+    ensures { result ≡ meets store.now condition o f values.now }
+{
+    match condition {
+        Condition::OfClass => is_of_class(store, o, f),
+        Condition::HasRoom => values.len() <= room(store.metamodel(), f),
+        Condition::OfKinds => are_of_kinds(store, f, values),
+        Condition::Differ => differ(values),
+        Condition::HeldBack => are_held_back(store, o, f, values),
+    }
+}
+
+pub fn is_of_class(store: &Store, o: ObjectId, f: FeatureId) -> bool
+    ensures { result ≡ is_of_class store.now o f }
+{
+    match store.kind(o) {
+        Some(class) => store.metamodel().features_of(class).contains(&f),
+        None => false,
+    }
+}
+
+// How many values a slot of the feature may have.
+pub fn room(metamodel: &Metamodel, f: FeatureId) -> usize
+    requires { f < length metamodel.now.features }
+    ensures { result ≡ room metamodel.now f }
+{
+    if metamodel.feature(f).many { 20_000 } else { 1 }
+}
+
+fn are_of_kinds(store: &Store, f: FeatureId, values: &[Scalar]) -> bool
+    requires { f < length store.now.metamodel.features }
+    ensures { result ≡ list_all (is_of_feature store.now f) values.now }
+{
+    for value in values {
+        if !is_of_feature(store, f, value) {
+            return false;
+        }
+    }
+    true
+}
+
+pub fn is_of_feature(store: &Store, f: FeatureId, value: &Scalar) -> bool
+    requires { f < length store.now.metamodel.features }
+    ensures { result ≡ is_of_feature store.now f value.now }
+{
+    store.metamodel().well_formed();
+    let kind = store.metamodel().feature(f).kind;
+    is_of_kind(store, kind, value)
+}
+
+fn is_of_kind(store: &Store, kind: Kind, value: &Scalar) -> bool
+    requires { KindIsKnown store.now.metamodel kind }
+    ensures { result ≡ is_of_kind store.now kind value.now }
+{
+    match kind {
+        Kind::Int => is_integer(value),
+        Kind::Bool => is_boolean(value),
+        Kind::Text => is_text(value),
+        Kind::Enum(e) => is_literal(store.metamodel(), e, value),
+        Kind::Reference(c) => is_instance(store, c, value),
+    }
+}
+
+fn is_integer(value: &Scalar) -> bool
+    ensures { result ≡ is_integer value.now }
+{
+    matches!(value, Scalar::Int(_))
+}
+
+fn is_boolean(value: &Scalar) -> bool
+    ensures { result ≡ is_boolean value.now }
+{
+    matches!(value, Scalar::Bool(_))
+}
+
+fn is_text(value: &Scalar) -> bool
+    ensures { result ≡ is_text value.now }
+{
+    match value {
+        Scalar::Text(text) => text.as_slice().len() <= 65_536,
+        _ => false,
+    }
+}
+
+fn is_literal(metamodel: &Metamodel, e: EnumId, value: &Scalar) -> bool
+    requires { e < length metamodel.now.enumerations }
+    ensures { result ≡ is_literal metamodel.now e value.now }
+{
+    let count = metamodel.literal_count(e);
+    match value {
+        Scalar::Literal(d, literal) => e == *d && *literal < count,
+        _ => false,
+    }
+}
+
+fn is_instance(store: &Store, c: ClassId, value: &Scalar) -> bool
+    requires { c < length store.now.metamodel.classes }
+    ensures { result ≡ is_instance store.now c value.now }
+{
+    match value {
+        Scalar::Object(o) => conforms_to(store, c, *o),
+        _ => false,
+    }
+}
+
+// Is the object live, and of the class or one below it?
+fn conforms_to(store: &Store, c: ClassId, o: ObjectId) -> bool
+    requires { c < length store.now.metamodel.classes }
+    ensures { result ≡ conforms_to store.now c o }
+{
+    match store.kind(o) {
+        Some(class) => store.metamodel().conforms(class, c),
+        None => false,
+    }
+}
+
+fn differ(values: &[Scalar]) -> bool
+    ensures { result ≡ differ values.now }
+{
+    for i in 0..values.len() {
+        let later = &values[i + 1..];
+        if later.contains(&values[i]) {
+            return false;
+        }
+    }
+    true
+}
+
+fn are_held_back(store: &Store, o: ObjectId, f: FeatureId, values: &[Scalar]) -> bool
+    requires { f < length store.now.metamodel.features }
+    ensures { result ≡ list_all (is_held_back store.now o f) values.now }
+{
+    for value in values {
+        if !is_held_back(store, o, f, value) {
+            return false;
+        }
+    }
+    true
+}
+
+fn is_held_back(store: &Store, o: ObjectId, f: FeatureId, value: &Scalar) -> bool
+    requires { f < length store.now.metamodel.features }
+    ensures { result ≡ is_held_back store.now o f value.now }
+{
+    match value {
+        Scalar::Object(p) => holds_back(store, o, f, *p),
+        _ => true,
+    }
+}
+
+fn holds_back(store: &Store, o: ObjectId, f: FeatureId, p: ObjectId) -> bool
+    requires { f < length store.now.metamodel.features }
+    ensures { result ≡ holds_back store.now o f p }
+{
+    match store.metamodel().feature(f).opposite {
+        Some(g) => has_object(store.get(p, g), o),
+        None => true,
+    }
+}
+
+/// The least object whose number is 0, or not below `next`.
+pub fn misnumbered_object(store: &Store) -> Option<ObjectId>
+    ensures { result ≡ least store.now (λ o c. is_misnumbered store.now o) }
+{
+    for record in store.records() {
+        let number = record.id.0;
+        if number == 0 || number >= store.next() {
+            return Some(record.id);
+        }
+    }
+    None
+}
+
+/// The least object whose class is abstract.
+pub fn abstract_object(store: &Store) -> Option<ObjectId>
+    ensures { result ≡ least store.now (λ o c. is_abstract store.now.metamodel c) }
+{
+    for record in store.records() {
+        if store.metamodel().is_abstract(record.class) {
+            return Some(record.id);
+        }
+    }
+    None
+}
