@@ -25,9 +25,9 @@ use Rattle.wb_aql_values.specs.declared.values.Value.TheVariants.{Null}
 use Rattle.wb_aql_values.specs.Bounds.{AreBounded, IsBounded, is_bounded}
 use Rattle.wb_aql_values.specs.Readings.{Content, contents, done, held, given, class_of, ◌>>=◌}
 use Rattle.wb_aql_eval.specs.Features.{feature_of, feature_of_object, navigated, known, shown}
-use Rattle.wb_aql_eval.proofs.Putting.{le_of_test}
-use Rattle.wb_aql_eval.proofs.Sublists.{and_both, both_true}
-use Rattle.wb_aql_eval.proofs.Yields.{Yields, in_turn, of_lifted, anything}
+use Rattle.wb_aql_values.proofs.Putting.{le_of_test}
+use Rattle.wb_aql_values.proofs.Sublists.{and_both, both_true}
+use Rattle.wb_aql_values.proofs.Yields.{Yields, in_turn, of_lifted, anything}
 
 -- the values of a slot are within their bounds, and differ
 abbrev pub AreHeld : Metamodel → (c : Cell) → Content c → Type 0

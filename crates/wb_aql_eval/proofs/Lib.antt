@@ -1,14 +1,9 @@
 pub mod BoundedFeatures
 pub mod BoundedOperators
-pub mod BoundedServices
 pub mod Meanings
 pub mod Navigating
 pub mod Numbers
 pub mod Objects
 pub mod Passing
-pub mod Putting
 pub mod Running
 pub mod Scopes
-pub mod Serving
-pub mod Sublists
-pub mod Yields

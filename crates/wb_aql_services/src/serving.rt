@@ -28,7 +28,8 @@ pub fn serve(
 ) -> Result<Answer, AllocError>
     requires receiver { IsBounded model.now.metamodel receiver.now }
     requires arguments { All (IsArgument model.now.metamodel) arguments.now }
-    ensures { IfOk result (λ answer. run (meaning model.now.metamodel service receiver.now arguments.now) (contents model.now) reads.old ≡ record { gave = answered answer; reads = reads.new }) }
+    ensures gives { IfOk result (λ answer. run (meaning model.now.metamodel service receiver.now arguments.now) (contents model.now) reads.old ≡ record { gave = answered answer; reads = reads.new }) }
+    ensures bounded { IfOk result (λ answer. IfOk (answered answer) (IsBounded model.now.metamodel)) }
 {
     match run_service(alloc, service, receiver, arguments, model, reads) {
         Ok(value) => Ok(Answer::Value(value)),
@@ -48,7 +49,8 @@ pub fn run_service(
 ) -> Result<Value, Stop>
     requires receiver { IsBounded model.now.metamodel receiver.now }
     requires arguments { All (IsArgument model.now.metamodel) arguments.now }
-    ensures { Gives (run (meaning model.now.metamodel service receiver.now arguments.now) (contents model.now) reads.old) result reads.new }
+    ensures gives { Gives (run (meaning model.now.metamodel service receiver.now arguments.now) (contents model.now) reads.old) result reads.new }
+    ensures bounded { IfOk result (IsBounded model.now.metamodel) }
 {
     let asked = type_in(arguments);
     let null = Value::Null;

@@ -2,16 +2,10 @@ use Rattle.std.proofs.Common.{[], ◌∷◌, sym}
 use Rattle.wb_aql_values.specs.Readings.{contents}
 use Rattle.wb_aql_values.specs.declared.values.Value.TheVariants.{Null}
 use Rattle.wb_aql_values.proofs.RunLemmas.{run_done}
-use Rattle.wb_aql_eval.proofs.Serving.{service_bounded, argument_bounded}
 use Rattle.wb_aql_eval.proofs.calls.call_with.Goals as goal
 
-pub returns-in-Some-clause-bounded : goal.returns-in-Some-clause-bounded
-returns-in-Some-clause-bounded c =
-    service_bounded c.args.model.now c.in-Some.service c.args.receiver.now c.from_ref.result.now c.args.reads.now c.run_service.result c.run_service.new.reads c.requires.receiver
-    (rw c.from_ref.ensures.value (argument_bounded c.args.model.now.metamodel c.args.argument.now c.requires.argument)) c.run_service.ensures
-
 pub returns-in-Some-clause-value : goal.returns-in-Some-clause-value
-returns-in-Some-clause-value c = rw (c.in-Some.is, sym c.from_ref.ensures.value) c.run_service.ensures
+returns-in-Some-clause-value c = rw (c.in-Some.is, sym c.from_ref.ensures.value) c.run_service.ensures.gives
 
 pub returns-in-None-clause-value : goal.returns-in-None-clause-value
 returns-in-None-clause-value c = rw c.in-None.is (run_done (contents c.args.model.now) Null c.args.reads.now)

@@ -10,9 +10,9 @@ use Rattle.wb_aql_values.specs.Readings.{contents}
 use Rattle.wb_aql_values.specs.Runs.{run, with_read, Gives}
 use Rattle.wb_aql_values.proofs.RunLemmas.{returned}
 use Rattle.wb_aql_eval.specs.Outcomes.{objects_of}
-use Rattle.wb_aql_eval.proofs.BoundedServices.{objects_bounded}
+use Rattle.wb_aql_services.proofs.BoundedServices.{objects_bounded}
 use Rattle.wb_aql_eval.proofs.Objects.{became_is, objects_given, objects_stopped}
-use Rattle.wb_aql_eval.proofs.Putting.{put_bounded, empty_bounded}
+use Rattle.wb_aql_values.proofs.Putting.{put_bounded, empty_bounded}
 use Rattle.wb_aql_eval.proofs.evaluation.eval_objects.Goals as goal
 
 pub returns-clause-value : goal.returns-clause-value

@@ -2,7 +2,7 @@ use Rattle.wb_aql_values.specs.Bounds.{IsBounded}
 use Rattle.wb_aql_values.specs.Readings.{contents}
 use Rattle.wb_aql_eval.specs.Features.{feature_of}
 use Rattle.wb_aql_eval.proofs.BoundedFeatures.{AreHeld, valid_held, feature_yields}
-use Rattle.wb_aql_eval.proofs.Yields.{gives_bounded}
+use Rattle.wb_aql_values.proofs.Yields.{gives_bounded}
 use Rattle.wb_aql_eval.proofs.features.feature_of.Goals as goal
 
 pub returns-clause-value : goal.returns-clause-value

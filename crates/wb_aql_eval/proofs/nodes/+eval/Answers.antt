@@ -17,10 +17,10 @@ use Rattle.wb_aql_eval.specs.Meaning.{meaning, collected, called, put_last, serv
 use Rattle.wb_aql_eval.specs.Features.{feature_of}
 use Rattle.wb_aql_eval.specs.Scopes.{values_of, bound}
 use Rattle.wb_aql_eval.proofs.Meanings.{means_integer, means_text, means_constant, means_literal, means_collection, means_unary, means_binary, means_if, means_let, means_feature, means_call, means_variable, no_elements, more_elements, a_type, a_value, a_lambda, called_alone, called_at_length, one_item}
-use Rattle.wb_aql_eval.proofs.Putting.{became_bounded, empty_bounded}
+use Rattle.wb_aql_values.proofs.Putting.{became_bounded, empty_bounded}
 use Rattle.wb_aql_eval.proofs.Running.{given_gives, gives_equal, left_stopped, not_decided, decided_early, goes_right, condition_stopped, not_true_or_false, chose, test_stopped, test_gives, sift_stopped, sift_gives, first_stopped, first_found, first_passed_over, first_none, kept_more, kept_same, searched}
 use Rattle.wb_aql_eval.proofs.Scopes.{values_inner, inner_within}
-use Rattle.wb_aql_eval.proofs.Sublists.{IsSublist, none, one_kept, one_left_out, bounded_kept}
+use Rattle.wb_aql_values.proofs.Sublists.{IsSublist, none, one_kept, one_left_out, bounded_kept}
 use Rattle.wb_aql_eval.proofs.nodes.+eval.Goals as goal
 use Rattle.wb_aql_eval.proofs.nodes.+eval.Goals.{eval_sifted-then-branch-wanted+in_ok-copy+in_ok-push, eval_sifted-else-branch-wanted}
 

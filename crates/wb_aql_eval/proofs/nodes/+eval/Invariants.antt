@@ -9,7 +9,7 @@ use Rattle.wb_aql_values.specs.Runs.{run}
 use Rattle.wb_aql_eval.specs.Iterations.{sift, first_that}
 use Rattle.wb_aql_eval.specs.Meaning.{collected, of_member, sort_named}
 use Rattle.wb_aql_eval.specs.Scopes.{values_of}
-use Rattle.wb_aql_eval.proofs.Sublists.{IsSublist}
+use Rattle.wb_aql_values.proofs.Sublists.{IsSublist}
 use Rattle.wb_aql_eval.proofs.nodes.+eval.Given as goal
 
 abbrev pub decreases-eval_node : goal.decreases-eval_node

@@ -14,14 +14,10 @@ use Rattle.wb_aql_values.specs.declared.values.Value.{Value}
 use Rattle.wb_aql_values.specs.Bounds.{IsBounded}
 use Rattle.wb_aql_values.specs.Readings.{contents}
 use Rattle.wb_aql_values.specs.Runs.{Gives, run}
-use Rattle.wb_aql_eval.proofs.BoundedServices.{service_of}
-use Rattle.wb_aql_eval.proofs.Yields.{gives_bounded}
+use Rattle.wb_aql_services.proofs.BoundedServices.{service_of}
+use Rattle.wb_aql_values.proofs.Yields.{gives_bounded}
 
 pub service_bounded : (m : Contents) (service : Service) (r : Value) (arguments : List Argument) (old : List Cell) (result : Result Value Stop) (reads : List Cell) →
     IsBounded m.metamodel r → IsBounded m.metamodel (value_in arguments) → Gives (run (meaning m.metamodel service r arguments) (contents m) old) result reads → IfOk result (IsBounded m.metamodel)
 service_bounded m service r arguments old result reads h b e =
     gives_bounded (λ c x. ⊤) (IsBounded m.metamodel) (meaning m.metamodel service r arguments) (contents m) old result reads (λ c. tt) (service_of m.metamodel (λ c x. ⊤) service r arguments h b) e
-
-pub argument_bounded : (mm : Metamodel) (argument : Argument) → IsArgument mm argument → IsBounded mm (value_in (argument ∷ []))
-argument_bounded mm (Class k) h = tt
-argument_bounded mm (Of v) h = h

@@ -16,7 +16,7 @@ use Rattle.wb_aql_values.specs.Values.{members, collection, has, with_member, wi
 use Rattle.wb_aql_values.specs.Bounds.{IsBounded, is_bounded}
 use Rattle.wb_aql_values.specs.declared.faults.Stop.{Stop}
 use Rattle.wb_aql_values.specs.Runs.{Became}
-use Rattle.wb_aql_eval.proofs.Sublists.{and_both, both_true, or_neither, both_false, not_true, not_false}
+use Rattle.wb_aql_values.proofs.Sublists.{and_both, both_true, or_neither, both_false, not_true, not_false}
 
 pub le_of_test : (m n : ℕ) → nat_le m n ≡ true → m ≤ n
 le_of_test m n h = grind (arith, nat_tests)

@@ -15,8 +15,8 @@ use Rattle.wb_aql_values.specs.Bounds.{IsBounded, is_bounded}
 use Rattle.wb_aql_values.specs.Values.{collection, put}
 use Rattle.wb_aql_values.specs.Readings.{Content, Reading, done, fail, look, given, each, gather, of_each, lifted, ◌>>=◌}
 use Rattle.wb_aql_values.specs.Runs.{Ran, run, with_read, Gives}
-use Rattle.wb_aql_eval.proofs.Putting.{bounded_put, empty_bounded}
-use Rattle.wb_aql_eval.proofs.Sublists.{and_both}
+use Rattle.wb_aql_values.proofs.Putting.{bounded_put, empty_bounded}
+use Rattle.wb_aql_values.proofs.Sublists.{and_both}
 
 same_given : {A : Type 0} (y x : A) → ◌≡◌ {A = Result A Fault} (Ok y) (Ok x) → y ≡ x
 same_given y x e = cc

@@ -29,9 +29,9 @@ use Rattle.wb_aql_values.specs.Bounds.{AreBounded, IsBounded, is_bounded}
 use Rattle.wb_aql_values.specs.Values.{collection, put, short, members, sort_of}
 use Rattle.wb_aql_values.specs.TextForms.{bounded_text, made, full_form, text_form, scalar_form}
 use Rattle.wb_aql_values.specs.Readings.{Content, Reading, done, fail, given, held, each, class_of, ◌>>=◌}
-use Rattle.wb_aql_eval.proofs.Putting.{put_bounded, bounded_put, empty_bounded, bounded_members, le_of_test}
-use Rattle.wb_aql_eval.proofs.Sublists.{IsSublist, none, kept, left_out, bounded_kept, bounded_sublist, and_both}
-use Rattle.wb_aql_eval.proofs.Yields.{Yields, in_turn, weaker, anything, of_given, of_lifted}
+use Rattle.wb_aql_values.proofs.Putting.{put_bounded, bounded_put, empty_bounded, bounded_members, le_of_test}
+use Rattle.wb_aql_values.proofs.Sublists.{IsSublist, none, kept, left_out, bounded_kept, bounded_sublist, and_both}
+use Rattle.wb_aql_values.proofs.Yields.{Yields, in_turn, weaker, anything, of_given, of_lifted}
 
 one_more : {A : Type 0} (b : Bool) (x : A) (ys xs : List A) → IsSublist ys xs → IsSublist (cond b (x ∷ ys) ys) (x ∷ xs)
 one_more true x ys xs s = kept s
