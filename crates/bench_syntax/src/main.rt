@@ -1,6 +1,9 @@
 //! Prints the canonical spelling of the expression in a file, or the place at which it is refused: a program for `bench/`.
 #![tactic(auto)]
 
+ghost use Rattle.std.specs.Prelude.{IfOk};
+ghost use Rattle.bench_syntax.specs.Shown.{Shows};
+
 use std::alloc::{AllocError, Global};
 use std::process::ExitCode;
 use std::{env, io};
@@ -33,7 +36,11 @@ fn spelling_of_file(rt: &HostRuntime) -> Result<Option<Text>, AllocError> {
     }
 }
 
-fn spelling_of(alloc: Global, text: &[u8]) -> Result<Text, AllocError> {
+/// What is printed of a text.
+#[tactic(auto, using(crate::proofs::Shown::shown))]
+fn spelling_of(alloc: Global, text: &[u8]) -> Result<Text, AllocError>
+    ensures { IfOk result (Shows text.now) }
+{
     match parse(alloc, text) {
         Ok(expression) => print(alloc, &expression),
         Err(ParseRefusal::Syntax(_)) => Text::from_str(alloc, "Syntax"),

@@ -28,6 +28,7 @@ use Rattle.wb_validity.proofs.LinkLemmas.{any_found, to_false}
 use Rattle.wb_model.proofs.Live.{kind-some, some-kind, contained-live, of_class-kept, of_feature-kept}
 use Rattle.wb_store.proofs.Members.{In, any_In}
 use Rattle.wb_store.proofs.Members.In.{there}
+use Rattle.wb_store.proofs.Without.{kind-without}
 use Rattle.wb_model.proofs.Sound.{Stands, contains-parts, contains-from, Sound, Housed}
 use Rattle.wb_model.proofs.TreesWithin.{tree-within, within-tree, among-In, In-among}
 

@@ -16,6 +16,7 @@ use Rattle.wb_model.specs.declared.refusals.ModelRefusal.TheVariants.{UnknownObj
 use Rattle.wb_store.specs.Contents.{Contents, kind, slot, is_containment}
 use Rattle.wb_store.specs.Cells.{tree, is_plain}
 use Rattle.wb_store.specs.Features.{is_many}
+use Rattle.wb_store.specs.Relinking.{Link, link, both_ends, change, is_at, same_link, leads_to, is_among, stands, gives_way, without_root, without}
 use Rattle.wb_validity.specs.Valid.{room, is_of_class, is_of_feature, is_abstract}
 
 -- ---- the edits of models

@@ -1,6 +1,6 @@
 -- Where a number stands in a list that rises.
-use Rattle.std.specs.Prelude.{◌≡◌, ◌≢◌, ℕ, ◌<◌, nat_eq, nat_lt, List, [], ◌∷◌, length, Bool, true, ◌&&◌, slice_index_or, Option, Some, None}
-use Rattle.std.specs.List.{list_all, find}
+use Rattle.std.specs.Prelude.{◌≡◌, ◌≢◌, ℕ, ◌<◌, nat_eq, nat_lt, List, [], ◌∷◌, length, Bool, true, not, ◌&&◌, slice_index_or, Option, Some, None}
+use Rattle.std.specs.List.{list_all, list_any, find}
 
 -- do the numbers of a list strictly rise?
 abbrev pub rises : {A : Type 0} → (A → ℕ) → List A → Bool

@@ -12,6 +12,8 @@ use Rattle.wb_store.specs.declared.scalars.Scalar.{Scalar}
 use Rattle.wb_store.specs.declared.scalars.Scalar.TheVariants.{Int, Bool as Boolean, Text, Literal, Object}
 use Rattle.wb_store.specs.Scalars.{same}
 use Rattle.wb_store.specs.Contents.{Contents, Filled, members, kind, slot, has_object, contains}
+use Rattle.wb_store.specs.Features.{is_many, opposite}
+use Rattle.wb_store.specs.Places.{once}
 
 -- does the test pass each object with its class?
 abbrev pub every_object : Contents → (ℕ → ℕ → Bool) → Bool

@@ -5,12 +5,12 @@ mod checks;
 mod conditions;
 mod flaws;
 mod rings;
-mod trees;
 mod uncontained;
 mod validity;
+mod walks;
 
 pub use checks::check_all;
 pub use conditions::{is_of_class, is_of_feature, room};
 pub use flaws::Flaw;
-pub use trees::tree;
 pub use validity::validity_is_decided;
+pub use walks::tree;

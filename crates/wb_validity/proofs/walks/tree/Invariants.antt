@@ -1,7 +1,7 @@
 use Rattle.std.proofs.Common.{◌≡◌, ◌++◌, length, reverse, ◌∷◌}
 use Rattle.std.specs.List.{flat_map}
 use Rattle.wb_store.specs.Cells.{tree}
-use Rattle.wb_validity.proofs.trees.tree.Given as goal
+use Rattle.wb_validity.proofs.walks.tree.Given as goal
 
 abbrev pub invariant-loop-p : goal.invariant-loop-p
 invariant-loop-p l = l.tree.items ++ flat_map (λ p. p ∷ tree l.store p) (reverse l.to_come.items) ≡ tree l.store l.fn.o

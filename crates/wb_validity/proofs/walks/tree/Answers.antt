@@ -1,7 +1,7 @@
 use Rattle.std.proofs.Common.{◌≡◌, ◌∙◌, ap, sym, List, ℕ, ◌++◌, reverse, length, arith}
 use Rattle.std.proofs.lemmas.List.{append-nil, nil_from_length}
 use Rattle.wb_validity.proofs.Trees.{trees, walk_begins, walk_smaller, walk_goes_on}
-use Rattle.wb_validity.proofs.trees.tree.Goals as goal
+use Rattle.wb_validity.proofs.walks.tree.Goals as goal
 
 pub loop-p-init : goal.loop-p-init
 loop-p-init c =
