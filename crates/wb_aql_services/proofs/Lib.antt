@@ -5,4 +5,4 @@ pub mod FirstLooks
 pub mod Handed
 pub mod Others
 pub mod Sequencing
-pub mod Serving
+pub mod ServedValues

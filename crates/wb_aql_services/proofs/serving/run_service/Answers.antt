@@ -6,7 +6,7 @@ use Rattle.wb_aql_services.specs.Asked.{IsType}
 use Rattle.wb_aql_services.specs.Services.{meaning, on_receiver}
 use Rattle.wb_aql_services.proofs.Choices.{as_given}
 use Rattle.wb_aql_services.proofs.Handed.{handed_type, handed_value}
-use Rattle.wb_aql_services.proofs.Serving.{service_bounded}
+use Rattle.wb_aql_services.proofs.ServedValues.{service_bounded}
 use Rattle.wb_aql_services.proofs.serving.run_service.Goals as goal
 
 pub on_receiver-requires-clause-asked : goal.on_receiver-requires-clause-asked
