@@ -1,5 +1,6 @@
 pub mod Breaches
 pub mod Climbing
+pub mod Differing
 pub mod Findings
 pub mod LinkLemmas
 pub mod Marked

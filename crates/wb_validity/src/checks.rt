@@ -17,18 +17,18 @@ use wb_store::{Link, ObjectSet, Record, Store, containment_links, first_marked, 
 pub fn check_all(alloc: Global, store: &Store, wrong: &ObjectSet) -> Result<(), Flaw>
     ensures { Finds result (broken store.now wrong.now) }
 {
-    check_first(store, wrong)?;
-    check_values(store)?;
+    check_first(alloc, store, wrong)?;
+    check_values(alloc, store)?;
     check_containment(alloc, store)
 }
 
-fn check_first(store: &Store, wrong: &ObjectSet) -> Result<(), Flaw>
+fn check_first(alloc: Global, store: &Store, wrong: &ObjectSet) -> Result<(), Flaw>
     ensures { Finds result (broken_first store.now wrong.now) }
 {
     check_numbers(store)?;
     passed(2, abstract_object(store))?;
-    passed(3, breaking_object(store, Condition::OfClass))?;
-    passed(4, crowded_object(store, wrong))
+    passed(3, breaking_object(alloc, store, Condition::OfClass)?)?;
+    passed(4, crowded_object(alloc, store, wrong)?)
 }
 
 fn check_numbers(store: &Store) -> Result<(), Flaw>
@@ -40,12 +40,12 @@ fn check_numbers(store: &Store) -> Result<(), Flaw>
     passed(1, misnumbered_object(store))
 }
 
-fn check_values(store: &Store) -> Result<(), Flaw>
+fn check_values(alloc: Global, store: &Store) -> Result<(), Flaw>
     ensures { Finds result (broken_values store.now) }
 {
-    passed(5, breaking_object(store, Condition::OfKinds))?;
-    passed(6, breaking_object(store, Condition::Differ))?;
-    passed(7, breaking_object(store, Condition::HeldBack))
+    passed(5, breaking_object(alloc, store, Condition::OfKinds)?)?;
+    passed(6, breaking_object(alloc, store, Condition::Differ)?)?;
+    passed(7, breaking_object(alloc, store, Condition::HeldBack)?)
 }
 
 // A condition is passed, unless an object shows that it is broken.

@@ -1,4 +1,4 @@
-ghost use Rattle.std.specs.Prelude.{◌≡◌, ◌<◌, ◌&&◌, ◌||◌, length, not, nat_eq, true};
+ghost use Rattle.std.specs.Prelude.{◌≡◌, ◌<◌, ◌&&◌, ◌||◌, length, not, nat_eq, true, IfOk};
 ghost use Rattle.std.specs.List.{list_all, list_any, flat_map};
 ghost use Rattle.wb_metamodel.specs.WellFormed.{KindIsKnown};
 ghost use Rattle.wb_validity.specs.Broken.{least, breaks, is_crowded, is_misnumbered};
@@ -8,6 +8,8 @@ ghost use Rattle.wb_store.specs.Records.{is_known_slot, slot_entries, slot_entry
 ghost use Rattle.wb_store.specs.Features.{opposite};
 ghost use Rattle.wb_validity.specs.Valid.{is_abstract, is_of_class, room, is_of_kind, is_integer, is_boolean, is_text, is_literal, is_instance, conforms_to, is_of_feature, differ, holds_back, is_held_back};
 
+use indexmap::IndexSet;
+use std::alloc::{AllocError, Global};
 use wb_metamodel::{ClassId, EnumId, FeatureId, Kind, Metamodel, ObjectId};
 use wb_store::{ObjectSet, Record, Scalar, Slot, Store, has_object};
 
@@ -27,69 +29,94 @@ pub enum Condition {
 }
 
 /// The least object that has a slot which does not meet the condition.
-pub fn breaking_object(store: &Store, condition: Condition) -> Option<ObjectId>
-    ensures { result ≡ least store.now (λ o c. breaks store.now condition o) }
+pub fn breaking_object(
+    alloc: Global,
+    store: &Store,
+    condition: Condition,
+) -> Result<Option<ObjectId>, AllocError>
+    ensures { IfOk result (λ object. object ≡ least store.now (λ o c. breaks store.now condition o)) }
 {
     for record in store.records() {
-        if !slots_meet(store, condition, record.id, record.slots.as_slice()) {
-            return Some(record.id);
+        let slots = record.slots.as_slice();
+        let all_meet = slots_meet(alloc, store, condition, record.id, slots)?;
+        if !all_meet {
+            return Ok(Some(record.id));
         }
     }
-    None
+    Ok(None)
 }
 
 /// The least object that is one of these, or has a slot with more values than there is room for.
-pub fn crowded_object(store: &Store, wrong: &ObjectSet) -> Option<ObjectId>
-    ensures { result ≡ least store.now (λ o c. is_crowded store.now wrong.now o) }
+pub fn crowded_object(
+    alloc: Global,
+    store: &Store,
+    wrong: &ObjectSet,
+) -> Result<Option<ObjectId>, AllocError>
+    ensures { IfOk result (λ object. object ≡ least store.now (λ o c. is_crowded store.now wrong.now o)) }
 {
     for record in store.records() {
-        if is_crowded(store, wrong, record) {
-            return Some(record.id);
+        let crowded = is_crowded(alloc, store, wrong, record)?;
+        if crowded {
+            return Ok(Some(record.id));
         }
     }
-    None
+    Ok(None)
 }
 
-fn is_crowded(store: &Store, wrong: &ObjectSet, record: &Record) -> bool
+fn is_crowded(
+    alloc: Global,
+    store: &Store,
+    wrong: &ObjectSet,
+    record: &Record,
+) -> Result<bool, AllocError>
     requires { list_all (is_known_slot store.now.metamodel) record.now.slots ≡ true }
-    ensures { result ≡ (list_any (λ p. nat_eq p record.now.id) wrong.now || not (list_all (λ e. meets store.now Condition.HasRoom e.0.0 e.0.1 (members e.1)) (slot_entries record.now))) }
+    ensures { IfOk result (λ is. is ≡ (list_any (λ p. nat_eq p record.now.id) wrong.now || not (list_all (λ e. meets store.now Condition.HasRoom e.0.0 e.0.1 (members e.1)) (slot_entries record.now)))) }
 {
     if wrong.contains(record.id) {
-        true
-    } else {
-        !slots_meet(
-            store,
-            Condition::HasRoom,
-            record.id,
-            record.slots.as_slice(),
-        )
+        return Ok(true);
     }
+    let slots = record.slots.as_slice();
+    let have_room = slots_meet(alloc, store, Condition::HasRoom, record.id, slots)?;
+    Ok(!have_room)
 }
 
 // Do all slots of an object that are not empty meet the condition?
-fn slots_meet(store: &Store, condition: Condition, o: ObjectId, slots: &[Slot]) -> bool
+fn slots_meet(
+    alloc: Global,
+    store: &Store,
+    condition: Condition,
+    o: ObjectId,
+    slots: &[Slot],
+) -> Result<bool, AllocError>
     requires { list_all (is_known_slot store.now.metamodel) slots.now ≡ true }
-    ensures { result ≡ list_all (λ e. meets store.now condition e.0.0 e.0.1 (members e.1)) (flat_map (slot_entry o) slots.now) }
+    ensures { IfOk result (λ meet. meet ≡ list_all (λ e. meets store.now condition e.0.0 e.0.1 (members e.1)) (flat_map (slot_entry o) slots.now)) }
 {
     for slot in slots {
         let values = slot.values.as_slice();
-        if !values.is_empty() && !meets(store, condition, o, slot.feature, values) {
-            return false;
+        if !values.is_empty() && !meets(alloc, store, condition, o, slot.feature, values)? {
+            return Ok(false);
         }
     }
-    true
+    Ok(true)
 }
 
-fn meets(store: &Store, condition: Condition, o: ObjectId, f: FeatureId, values: &[Scalar]) -> bool
+fn meets(
+    alloc: Global,
+    store: &Store,
+    condition: Condition,
+    o: ObjectId,
+    f: FeatureId,
+    values: &[Scalar],
+) -> Result<bool, AllocError>
     requires { f < length store.now.metamodel.features }
-    ensures { result ≡ meets store.now condition o f values.now }
+    ensures { IfOk result (λ meets_it. meets_it ≡ meets store.now condition o f values.now) }
 {
     match condition {
-        Condition::OfClass => is_of_class(store, o, f),
-        Condition::HasRoom => values.len() <= room(store.metamodel(), f),
-        Condition::OfKinds => are_of_kinds(store, f, values),
-        Condition::Differ => differ(values),
-        Condition::HeldBack => are_held_back(store, o, f, values),
+        Condition::OfClass => Ok(is_of_class(store, o, f)),
+        Condition::HasRoom => Ok(values.len() <= room(store.metamodel(), f)),
+        Condition::OfKinds => Ok(are_of_kinds(store, f, values)),
+        Condition::Differ => differ(alloc, values),
+        Condition::HeldBack => Ok(are_held_back(store, o, f, values)),
     }
 }
 
@@ -197,16 +224,17 @@ fn conforms_to(store: &Store, c: ClassId, o: ObjectId) -> bool
     }
 }
 
-fn differ(values: &[Scalar]) -> bool
-    ensures { result ≡ differ values.now }
+fn differ(alloc: Global, values: &[Scalar]) -> Result<bool, AllocError>
+    ensures { IfOk result (λ they. they ≡ differ values.now) }
 {
-    for i in 0..values.len() {
-        let later = &values[i + 1..];
-        if later.contains(&values[i]) {
-            return false;
+    let mut seen = IndexSet::new(alloc);
+    for value in values {
+        let (_, is_new) = seen.insert_full(value)?;
+        if !is_new {
+            return Ok(false);
         }
     }
-    true
+    Ok(true)
 }
 
 fn are_held_back(store: &Store, o: ObjectId, f: FeatureId, values: &[Scalar]) -> bool

@@ -26,12 +26,12 @@ returns-in_err-passed-2 c =
     let p = err_from_is_err_and r.result r.ensures.1 in
     passed_on r.result _ _ c.in_ok-check_numbers.ensures
     (passed_on r.result _ _ (sym (ap (shown_by 2) c.abstract_object.ensures) ∙ c.in_ok-passed.ensures)
-    (raised r.result p.0 c.in_err-passed-2.field-0.0 _ _ p.1 p.2 (subst (Finds (Err c.in_err-passed-2.field-0.0)) (ap (shown_by 3) c.breaking_object.ensures) c.in_err-passed-2.ensures)))
+    (raised r.result p.0 c.in_err-passed-2.field-0.0 _ _ p.1 p.2 (subst (Finds (Err c.in_err-passed-2.field-0.0)) (ap (shown_by 3) c.in_ok-breaking_object.ensures) c.in_err-passed-2.ensures)))
 
 pub returns : goal.returns
 unfolding broken_first
 returns c =
     passed_on c.passed-3.result _ _ c.in_ok-check_numbers.ensures
     (passed_on c.passed-3.result _ _ (sym (ap (shown_by 2) c.abstract_object.ensures) ∙ c.in_ok-passed.ensures)
-    (passed_on c.passed-3.result _ _ (sym (ap (shown_by 3) c.breaking_object.ensures) ∙ c.in_ok-passed-2.ensures)
-    (subst (Finds c.passed-3.result) (ap (shown_by 4) c.crowded_object.ensures) c.passed-3.ensures)))
+    (passed_on c.passed-3.result _ _ (sym (ap (shown_by 3) c.in_ok-breaking_object.ensures) ∙ c.in_ok-passed-2.ensures)
+    (subst (Finds c.passed-3.result) (ap (shown_by 4) c.in_ok-crowded_object.ensures) c.passed-3.ensures)))

@@ -11,15 +11,15 @@ loop-record-init c =
     let records = c.records-record-items in
     least_begins c.args.store.now records.result.now (record { shown = records.ensures.shown; plain = records.ensures.plain }) (λ o k. is_crowded c.args.store.now c.args.wrong.now o)
 
-pub returns-then-is_crowded : goal.returns-then-is_crowded
-returns-then-is_crowded c =
+pub returns-then-crowded : goal.returns-then-crowded
+returns-then-crowded c =
     let m = c.args.store.now in
     let rs = c.records-record-items.result.now in
     let r = c.record-item.result in
     let kept : Kept m rs = record { shown = c.records-record-items.ensures.shown; plain = c.records-record-items.ensures.plain } in
     let passes = λ (o k : ℕ). is_crowded m c.args.wrong.now o in
     let is_in = least_in m rs kept passes c.loop-record.record-index r c.loop-record-test.true c.record-item.is in
-    let here = ap (λ b. list_any (λ p. eqb p r.id) c.args.wrong.now || not b) (slots_meet_kept m rs kept HasRoom r is_in r.slots refl) ∙ sym c.is_crowded.ensures ∙ c.if-is_crowded.true in
+    let here = ap (λ b. list_any (λ p. eqb p r.id) c.args.wrong.now || not b) (slots_meet_kept m rs kept HasRoom r is_in r.slots refl) ∙ sym c.in_ok-crowded.ensures ∙ c.if-crowded.true in
     least_here m rs kept passes c.loop-record.record-index r c.loop-record-test.true c.record-item.is here c.loop-record.invariant
 
 pub loop-record-preserved : goal.loop-record-preserved
@@ -30,5 +30,5 @@ loop-record-preserved c =
     let kept : Kept m rs = record { shown = c.records-record-items.ensures.shown; plain = c.records-record-items.ensures.plain } in
     let passes = λ (o k : ℕ). is_crowded m c.args.wrong.now o in
     let is_in = least_in m rs kept passes c.loop-record.record-index r c.loop-record-test.true c.record-item.is in
-    let here = ap (λ b. list_any (λ p. eqb p r.id) c.args.wrong.now || not b) (slots_meet_kept m rs kept HasRoom r is_in r.slots refl) ∙ sym c.is_crowded.ensures ∙ c.if-is_crowded.false in
+    let here = ap (λ b. list_any (λ p. eqb p r.id) c.args.wrong.now || not b) (slots_meet_kept m rs kept HasRoom r is_in r.slots refl) ∙ sym c.in_ok-crowded.ensures ∙ c.if-crowded.false in
     least_later m rs kept passes c.loop-record.record-index r c.loop-record-test.true c.record-item.is here c.loop-record.invariant
