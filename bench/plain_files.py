@@ -1,4 +1,4 @@
-"""Model files from the words of docs/DEFINITIONS.md alone, for walk.py: the first code and place of the checks in their order."""
+"""Model files from the words of their definitions, for walk.py: the first code and place of the checks in their order."""
 import collections, json, math, re
 from plain_models import LAST, MOST_OBJECTS, MOST_VALUES, Model, written
 

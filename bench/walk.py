@@ -1,5 +1,5 @@
 #!/usr/bin/env python3
-"""Recomputes what crates/model_cases prints from the words of docs/DEFINITIONS.md alone, and makes the script of its random walk.
+"""Recomputes what crates/model_cases prints from the words of the definitions of Model, Edit and Cell contents, and makes the script of its random walk.
 
 Usage, from the top of the checkout:
     python3 bench/walk.py make      writes crates/model_cases/data/walk.script, and prints how often each answer comes
