@@ -4,6 +4,7 @@ pub mod Differing
 pub mod Findings
 pub mod LinkLemmas
 pub mod Marked
+pub mod Opposed
 pub mod RingLemmas
 pub mod RootLemmas
 pub mod Trees

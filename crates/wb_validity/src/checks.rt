@@ -1,11 +1,13 @@
 ghost use Rattle.wb_validity.specs.Broken.{shown_by, unless, broken, broken_number, broken_first, broken_values, broken_holding, broken_containment};
 ghost use Rattle.wb_validity.specs.Flaws.{Finds};
+ghost use Rattle.wb_validity.specs.LinkSets.{KnowsLinks};
 ghost use Rattle.wb_store.specs.Links.{Kept, KnowsHolders};
 
 use crate::conditions::{
     Condition, abstract_object, breaking_object, crowded_object, misnumbered_object,
 };
 use crate::flaws::Flaw;
+use crate::link_set::LinkSet;
 use crate::rings::object_on_ring;
 use crate::uncontained::roots_are_uncontained;
 use std::alloc::Global;
@@ -17,18 +19,25 @@ use wb_store::{Link, ObjectSet, Record, Store, containment_links, first_marked, 
 pub fn check_all(alloc: Global, store: &Store, wrong: &ObjectSet) -> Result<(), Flaw>
     ensures { Finds result (broken store.now wrong.now) }
 {
-    check_first(alloc, store, wrong)?;
-    check_values(alloc, store)?;
+    let links = LinkSet::new(alloc, store)?;
+    check_first(alloc, store, &links, wrong)?;
+    check_values(alloc, store, &links)?;
     check_containment(alloc, store)
 }
 
-fn check_first(alloc: Global, store: &Store, wrong: &ObjectSet) -> Result<(), Flaw>
+fn check_first(
+    alloc: Global,
+    store: &Store,
+    links: &LinkSet,
+    wrong: &ObjectSet,
+) -> Result<(), Flaw>
+    requires { KnowsLinks store.now links.now }
     ensures { Finds result (broken_first store.now wrong.now) }
 {
     check_numbers(store)?;
     passed(2, abstract_object(store))?;
-    passed(3, breaking_object(alloc, store, Condition::OfClass)?)?;
-    passed(4, crowded_object(alloc, store, wrong)?)
+    passed(3, breaking_object(alloc, store, links, Condition::OfClass)?)?;
+    passed(4, crowded_object(alloc, store, links, wrong)?)
 }
 
 fn check_numbers(store: &Store) -> Result<(), Flaw>
@@ -40,12 +49,13 @@ fn check_numbers(store: &Store) -> Result<(), Flaw>
     passed(1, misnumbered_object(store))
 }
 
-fn check_values(alloc: Global, store: &Store) -> Result<(), Flaw>
+fn check_values(alloc: Global, store: &Store, links: &LinkSet) -> Result<(), Flaw>
+    requires { KnowsLinks store.now links.now }
     ensures { Finds result (broken_values store.now) }
 {
-    passed(5, breaking_object(alloc, store, Condition::OfKinds)?)?;
-    passed(6, breaking_object(alloc, store, Condition::Differ)?)?;
-    passed(7, breaking_object(alloc, store, Condition::HeldBack)?)
+    passed(5, breaking_object(alloc, store, links, Condition::OfKinds)?)?;
+    passed(6, breaking_object(alloc, store, links, Condition::Differ)?)?;
+    passed(7, breaking_object(alloc, store, links, Condition::HeldBack)?)
 }
 
 // A condition is passed, unless an object shows that it is broken.

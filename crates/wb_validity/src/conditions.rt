@@ -4,14 +4,16 @@ ghost use Rattle.wb_metamodel.specs.WellFormed.{KindIsKnown};
 ghost use Rattle.wb_validity.specs.Broken.{least, breaks, is_crowded, is_misnumbered};
 ghost use Rattle.wb_store.specs.Contents.{members};
 ghost use Rattle.wb_validity.specs.Conditions.{meets};
+ghost use Rattle.wb_validity.specs.LinkSets.{KnowsLinks};
 ghost use Rattle.wb_store.specs.Records.{is_known_slot, slot_entries, slot_entry};
 ghost use Rattle.wb_store.specs.Features.{opposite};
 ghost use Rattle.wb_validity.specs.Valid.{is_abstract, is_of_class, room, is_of_kind, is_integer, is_boolean, is_text, is_literal, is_instance, conforms_to, is_of_feature, differ, holds_back, is_held_back};
 
+use crate::link_set::LinkSet;
 use indexmap::IndexSet;
 use std::alloc::{AllocError, Global};
 use wb_metamodel::{ClassId, EnumId, FeatureId, Kind, Metamodel, ObjectId};
-use wb_store::{ObjectSet, Record, Scalar, Slot, Store, has_object};
+use wb_store::{ObjectSet, Record, Scalar, Slot, Store};
 
 /// A condition that speaks of one slot at a time.
 #[derive(Clone, Copy)]
@@ -32,13 +34,15 @@ pub enum Condition {
 pub fn breaking_object(
     alloc: Global,
     store: &Store,
+    links: &LinkSet,
     condition: Condition,
 ) -> Result<Option<ObjectId>, AllocError>
+    requires { KnowsLinks store.now links.now }
     ensures { IfOk result (λ object. object ≡ least store.now (λ o c. breaks store.now condition o)) }
 {
     for record in store.records() {
         let slots = record.slots.as_slice();
-        let all_meet = slots_meet(alloc, store, condition, record.id, slots)?;
+        let all_meet = slots_meet(alloc, store, links, condition, record.id, slots)?;
         if !all_meet {
             return Ok(Some(record.id));
         }
@@ -50,12 +54,14 @@ pub fn breaking_object(
 pub fn crowded_object(
     alloc: Global,
     store: &Store,
+    links: &LinkSet,
     wrong: &ObjectSet,
 ) -> Result<Option<ObjectId>, AllocError>
+    requires { KnowsLinks store.now links.now }
     ensures { IfOk result (λ object. object ≡ least store.now (λ o c. is_crowded store.now wrong.now o)) }
 {
     for record in store.records() {
-        let crowded = is_crowded(alloc, store, wrong, record)?;
+        let crowded = is_crowded(alloc, store, links, wrong, record)?;
         if crowded {
             return Ok(Some(record.id));
         }
@@ -66,17 +72,19 @@ pub fn crowded_object(
 fn is_crowded(
     alloc: Global,
     store: &Store,
+    links: &LinkSet,
     wrong: &ObjectSet,
     record: &Record,
 ) -> Result<bool, AllocError>
-    requires { list_all (is_known_slot store.now.metamodel) record.now.slots ≡ true }
+    requires knows { KnowsLinks store.now links.now }
+    requires known { list_all (is_known_slot store.now.metamodel) record.now.slots ≡ true }
     ensures { IfOk result (λ is. is ≡ (list_any (λ p. nat_eq p record.now.id) wrong.now || not (list_all (λ e. meets store.now Condition.HasRoom e.0.0 e.0.1 (members e.1)) (slot_entries record.now)))) }
 {
     if wrong.contains(record.id) {
         return Ok(true);
     }
     let slots = record.slots.as_slice();
-    let have_room = slots_meet(alloc, store, Condition::HasRoom, record.id, slots)?;
+    let have_room = slots_meet(alloc, store, links, Condition::HasRoom, record.id, slots)?;
     Ok(!have_room)
 }
 
@@ -84,16 +92,18 @@ fn is_crowded(
 fn slots_meet(
     alloc: Global,
     store: &Store,
+    links: &LinkSet,
     condition: Condition,
     o: ObjectId,
     slots: &[Slot],
 ) -> Result<bool, AllocError>
-    requires { list_all (is_known_slot store.now.metamodel) slots.now ≡ true }
+    requires knows { KnowsLinks store.now links.now }
+    requires known { list_all (is_known_slot store.now.metamodel) slots.now ≡ true }
     ensures { IfOk result (λ meet. meet ≡ list_all (λ e. meets store.now condition e.0.0 e.0.1 (members e.1)) (flat_map (slot_entry o) slots.now)) }
 {
     for slot in slots {
         let values = slot.values.as_slice();
-        if !values.is_empty() && !meets(alloc, store, condition, o, slot.feature, values)? {
+        if !values.is_empty() && !meets(alloc, store, links, condition, o, slot.feature, values)? {
             return Ok(false);
         }
     }
@@ -103,12 +113,14 @@ fn slots_meet(
 fn meets(
     alloc: Global,
     store: &Store,
+    links: &LinkSet,
     condition: Condition,
     o: ObjectId,
     f: FeatureId,
     values: &[Scalar],
 ) -> Result<bool, AllocError>
-    requires { f < length store.now.metamodel.features }
+    requires knows { KnowsLinks store.now links.now }
+    requires known { f < length store.now.metamodel.features }
     ensures { IfOk result (λ meets_it. meets_it ≡ meets store.now condition o f values.now) }
 {
     match condition {
@@ -116,7 +128,7 @@ fn meets(
         Condition::HasRoom => Ok(values.len() <= room(store.metamodel(), f)),
         Condition::OfKinds => Ok(are_of_kinds(store, f, values)),
         Condition::Differ => differ(alloc, values),
-        Condition::HeldBack => Ok(are_held_back(store, o, f, values)),
+        Condition::HeldBack => Ok(are_held_back(store, links, o, f, values)),
     }
 }
 
@@ -229,7 +241,7 @@ fn differ(alloc: Global, values: &[Scalar]) -> Result<bool, AllocError>
 {
     let mut seen = IndexSet::new(alloc);
     for value in values {
-        let (_, is_new) = seen.insert_full(value)?;
+        let is_new = seen.insert(value)?;
         if !is_new {
             return Ok(false);
         }
@@ -237,34 +249,50 @@ fn differ(alloc: Global, values: &[Scalar]) -> Result<bool, AllocError>
     Ok(true)
 }
 
-fn are_held_back(store: &Store, o: ObjectId, f: FeatureId, values: &[Scalar]) -> bool
-    requires { f < length store.now.metamodel.features }
+fn are_held_back(
+    store: &Store,
+    links: &LinkSet,
+    o: ObjectId,
+    f: FeatureId,
+    values: &[Scalar],
+) -> bool
+    requires knows { KnowsLinks store.now links.now }
+    requires known { f < length store.now.metamodel.features }
     ensures { result ≡ list_all (is_held_back store.now o f) values.now }
 {
     for value in values {
-        if !is_held_back(store, o, f, value) {
+        if !is_held_back(store, links, o, f, value) {
             return false;
         }
     }
     true
 }
 
-fn is_held_back(store: &Store, o: ObjectId, f: FeatureId, value: &Scalar) -> bool
-    requires { f < length store.now.metamodel.features }
+fn is_held_back(
+    store: &Store,
+    links: &LinkSet,
+    o: ObjectId,
+    f: FeatureId,
+    value: &Scalar,
+) -> bool
+    requires knows { KnowsLinks store.now links.now }
+    requires known { f < length store.now.metamodel.features }
     ensures { result ≡ is_held_back store.now o f value.now }
 {
     match value {
-        Scalar::Object(p) => holds_back(store, o, f, *p),
+        Scalar::Object(p) => holds_back(store, links, o, f, *p),
         _ => true,
     }
 }
 
-fn holds_back(store: &Store, o: ObjectId, f: FeatureId, p: ObjectId) -> bool
-    requires { f < length store.now.metamodel.features }
+fn holds_back(store: &Store, links: &LinkSet, o: ObjectId, f: FeatureId, p: ObjectId) -> bool
+    requires knows { KnowsLinks store.now links.now }
+    requires known { f < length store.now.metamodel.features }
     ensures { result ≡ holds_back store.now o f p }
 {
+    store.metamodel().well_formed();
     match store.metamodel().feature(f).opposite {
-        Some(g) => has_object(store.get(p, g), o),
+        Some(g) => links.contains(p, g, o),
         None => true,
     }
 }

@@ -4,6 +4,7 @@
 mod checks;
 mod conditions;
 mod flaws;
+mod link_set;
 mod rings;
 mod uncontained;
 mod validity;
