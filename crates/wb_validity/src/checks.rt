@@ -25,12 +25,7 @@ pub fn check_all(alloc: Global, store: &Store, wrong: &ObjectSet) -> Result<(), 
     check_containment(alloc, store)
 }
 
-fn check_first(
-    alloc: Global,
-    store: &Store,
-    links: &LinkSet,
-    wrong: &ObjectSet,
-) -> Result<(), Flaw>
+fn check_first(alloc: Global, store: &Store, links: &LinkSet, wrong: &ObjectSet) -> Result<(), Flaw>
     requires { KnowsLinks store.now links.now }
     ensures { Finds result (broken_first store.now wrong.now) }
 {
@@ -55,7 +50,10 @@ fn check_values(alloc: Global, store: &Store, links: &LinkSet) -> Result<(), Fla
 {
     passed(5, breaking_object(alloc, store, links, Condition::OfKinds)?)?;
     passed(6, breaking_object(alloc, store, links, Condition::Differ)?)?;
-    passed(7, breaking_object(alloc, store, links, Condition::HeldBack)?)
+    passed(
+        7,
+        breaking_object(alloc, store, links, Condition::HeldBack)?,
+    )
 }
 
 // A condition is passed, unless an object shows that it is broken.

@@ -268,13 +268,7 @@ fn are_held_back(
     true
 }
 
-fn is_held_back(
-    store: &Store,
-    links: &LinkSet,
-    o: ObjectId,
-    f: FeatureId,
-    value: &Scalar,
-) -> bool
+fn is_held_back(store: &Store, links: &LinkSet, o: ObjectId, f: FeatureId, value: &Scalar) -> bool
     requires knows { KnowsLinks store.now links.now }
     requires known { f < length store.now.metamodel.features }
     ensures { result ≡ is_held_back store.now o f value.now }

@@ -6,8 +6,9 @@ use Rattle.wb_validity.proofs.checks.check_all.Goals as goal
 pub returns-in_err-check_first : goal.returns-in_err-check_first
 unfolding broken
 returns-in_err-check_first c =
-    let p = err_from_is_err_and c.from_residual.result c.from_residual.ensures.1 in
-    raised c.from_residual.result p.0 c.in_err-check_first.field-0.0 _ _ p.1 p.2 c.in_err-check_first.ensures
+    let r = c.from_residual-in_err-check_first in
+    let p = err_from_is_err_and r.result r.ensures.1 in
+    raised r.result p.0 c.in_err-check_first.field-0.0 _ _ p.1 p.2 c.in_err-check_first.ensures
 
 pub returns-in_err-check_values : goal.returns-in_err-check_values
 unfolding broken
