@@ -7,7 +7,7 @@ use Rattle.std.specs.Option.{option_map_or}
 use Rattle.std.specs.List.{list_all, list_any}
 use Rattle.wb_metamodel.specs.Metamodel.{Metamodel, feature_at}
 use Rattle.wb_metamodel.specs.WellFormed.{WellFormed}
-use Rattle.wb_metamodel.specs.declared.features.Feature.{Feature}
+use Rattle.wb_ecore.specs.declared.features.Feature.{Feature}
 use Rattle.wb_store.specs.declared.records.Record.{Record}
 use Rattle.wb_store.specs.declared.records.Slot.{Slot}
 use Rattle.wb_store.specs.Contents.{Contents, has_object, slot}
