@@ -1,8 +1,8 @@
 //! What the programs of `bench/` share: their words, the models in files, and printing.
 #![tactic(auto)]
 
-mod models;
 mod console;
+mod models;
 
-pub use models::{file_in, model_in};
 pub use console::{print, words};
+pub use models::{file_in, model_in};

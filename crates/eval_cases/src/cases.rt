@@ -46,8 +46,7 @@ fn outcome(alloc: Global, model: &Model, line: &str) -> Result<Option<Outcome>, 
     let Some((number, text)) = line.split_once(' ') else {
         return Ok(None);
     };
-    let (Ok(number), Ok(expression)) = (number.parse::<u32>(), parse(alloc, text.as_bytes()))
-    else {
+    let (Ok(number), Ok(expression)) = (number.parse::<u32>(), parse(alloc, text.as_bytes())) else {
         return Ok(None);
     };
     let names = self_alone(alloc)?;

@@ -70,9 +70,7 @@ pub fn push_reads(
 fn push_cell(shown: &mut String, metamodel: &Metamodel, cell: &Cell) -> Result<(), AllocError> {
     match cell {
         Cell::Kind(o) => write!(shown, " Kind({})", o.0),
-        Cell::Slot(o, f) => {
-            write!(shown, " Slot({},{})", o.0, feature_name(metamodel, *f))
-        }
+        Cell::Slot(o, f) => { write!(shown, " Slot({},{})", o.0, feature_name(metamodel, *f)) }
         Cell::Holder(o) => write!(shown, " Holder({})", o.0),
         Cell::Tree(o) => write!(shown, " Tree({})", o.0),
         Cell::Inverse(o) => write!(shown, " Inverse({})", o.0),

@@ -74,17 +74,17 @@ fn is_crowded(
     store: &Store,
     links: &LinkSet,
     wrong: &ObjectSet,
-    record: &Record,
+    object: &Record,
 ) -> Result<bool, AllocError>
     requires knows { KnowsLinks store.now links.now }
-    requires known { list_all (is_known_slot store.now.metamodel) record.now.slots ≡ true }
-    ensures { IfOk result (λ is. is ≡ (list_any (λ p. nat_eq p record.now.id) wrong.now || not (list_all (λ e. meets store.now Condition.HasRoom e.0.0 e.0.1 (members e.1)) (slot_entries record.now)))) }
+    requires known { list_all (is_known_slot store.now.metamodel) object.now.slots ≡ true }
+    ensures { IfOk result (λ is. is ≡ (list_any (λ p. nat_eq p object.now.id) wrong.now || not (list_all (λ e. meets store.now Condition.HasRoom e.0.0 e.0.1 (members e.1)) (slot_entries object.now)))) }
 {
-    if wrong.contains(record.id) {
+    if wrong.contains(object.id) {
         return Ok(true);
     }
-    let slots = record.slots.as_slice();
-    let have_room = slots_meet(alloc, store, links, Condition::HasRoom, record.id, slots)?;
+    let slots = object.slots.as_slice();
+    let have_room = slots_meet(alloc, store, links, Condition::HasRoom, object.id, slots)?;
     Ok(!have_room)
 }
 
