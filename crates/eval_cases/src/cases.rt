@@ -1,4 +1,7 @@
 //! The cases: each is a line of the number of the object that `self` is, a space and an expression.
+ghost use Rattle.std.specs.Prelude.{◌≡◌};
+ghost use Rattle.wb_aql_check.specs.Checked.{IsChecked};
+
 use crate::shown::{push_reads, push_value};
 use std::alloc::{AllocError, Global};
 use wb_aql_check::{Checked, check};
@@ -68,7 +71,10 @@ fn evaluated(
     names: List<Text>,
     number: u32,
     model: &Model,
-) -> Result<Outcome, AllocError> {
+) -> Result<Outcome, AllocError>
+    requires scope { checked.now.1 ≡ names }
+    requires checked { IsChecked model.now.metamodel checked.now }
+{
     let mut values = List::new(alloc);
     values.push(Value::One(Scalar::Object(ObjectId(number))))?;
     let env = Env { names, values };
