@@ -4,27 +4,24 @@
 mod sets;
 
 use crate::sets::thousand_sets;
-use bench_files::{model_in, print, words};
+use bench_files::model_in;
 use std::alloc::{AllocError, Global};
 use std::process::ExitCode;
 use wb_base::Text;
+use wb_console::{command_words, finish};
 use wb_model::Model;
 use wb_model_json::write_model;
 use wb_outer::FileShelf;
 
 fn main(rt: HostRuntime) -> ExitCode {
-    match answer(&rt) {
-        Ok(Some(text)) => print(&rt, &text),
-        Ok(None) => ExitCode::from(3),
-        Err(_) => ExitCode::from(11),
-    }
+    finish(&rt, answer(&rt))
 }
 
 /// What is printed for the words: a task, and the files of a metamodel and a model. None where there is no such task or no model.
 fn answer(rt: &HostRuntime) -> Result<Option<Text>, AllocError> {
     let alloc = rt.alloc();
     let mut shelf = FileShelf::new(rt, alloc);
-    let words = words(rt)?;
+    let words = command_words(rt)?;
     match words.as_slice() {
         [task, metamodel, model] => {
             match model_in(alloc, &mut shelf, metamodel.as_slice(), model.as_slice())? {

@@ -5,23 +5,20 @@ mod cases;
 mod shown;
 
 use crate::cases::outcomes;
-use bench_files::{file_in, model_in, print, words};
+use bench_files::{file_in, model_in};
 use std::alloc::{AllocError, Global};
 use std::process::ExitCode;
 use wb_base::Text;
+use wb_console::{command_words, finish};
 use wb_outer::{Bytes, FileShelf};
 
 fn main(rt: HostRuntime) -> ExitCode {
-    match answer(&rt) {
-        Ok(Some(text)) => print(&rt, &text),
-        Ok(None) => ExitCode::from(3),
-        Err(_) => ExitCode::from(11),
-    }
+    finish(&rt, answer(&rt))
 }
 
 /// What is printed for the words: threes of the files of a metamodel, a model and expressions. None where one of them is not of its form.
 fn answer(rt: &HostRuntime) -> Result<Option<Text>, AllocError> {
-    let words = words(rt)?;
+    let words = command_words(rt)?;
     let mut shown = String::new(rt.alloc());
     for files in words.as_slice().chunks(3) {
         match files {

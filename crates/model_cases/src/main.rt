@@ -12,18 +12,15 @@ mod texts;
 mod values;
 
 use crate::scripts::push_script;
-use bench_files::{file_in, model_in, print, words};
+use bench_files::{file_in, model_in};
 use std::alloc::AllocError;
 use std::process::ExitCode;
 use wb_base::Text;
+use wb_console::{command_words, finish};
 use wb_outer::{Bytes, FileShelf};
 
 fn main(rt: HostRuntime) -> ExitCode {
-    match answer(&rt) {
-        Ok(Some(text)) => print(&rt, &text),
-        Ok(None) => ExitCode::from(3),
-        Err(_) => ExitCode::from(11),
-    }
+    finish(&rt, answer(&rt))
 }
 
 /// What is printed for the words: the files of a metamodel, a model and a script, and so on. None where one of them is not of its form.
@@ -31,7 +28,7 @@ fn answer(rt: &HostRuntime) -> Result<Option<Text>, AllocError> {
     let alloc = rt.alloc();
     let mut shelf = FileShelf::new(rt, alloc);
     let mut shown = String::new(alloc);
-    for files in words(rt)?.as_slice().chunks(3) {
+    for files in command_words(rt)?.as_slice().chunks(3) {
         if !push_case(rt, &mut shelf, &mut shown, files)? {
             return Ok(None);
         }

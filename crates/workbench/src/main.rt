@@ -21,36 +21,19 @@ mod words;
 
 use crate::run::workbench;
 use crate::status::Status;
-use std::alloc::AllocError;
 use std::process::ExitCode;
-use std::{env, io};
+use wb_console::command_words;
 use wb_outer::{Bytes, FileShelf, StdoutSink, Steps, SureDoor, SureKeeper};
 
 /// The label of the count of evaluations.
 struct Evaluations;
 
 fn main(rt: HostRuntime) -> ExitCode {
-    let status = match words_asked(&rt) {
+    let status = match command_words(&rt) {
         Ok(words) => run_on(&rt, words.as_slice()),
         Err(_) => Status::NoMemory,
     };
     ExitCode::from(status as u8)
-}
-
-/// The words behind the program's name. Words that are not UTF-8 are of no form, like no words at all.
-fn words_asked(rt: &HostRuntime) -> Result<Vec<Bytes>, AllocError> {
-    let alloc = rt.alloc();
-    let mut words = Vec::new(alloc);
-    match env::args(rt) {
-        Ok(args) => {
-            for word in args.skip(1) {
-                words.push(Bytes::from_slice(alloc, word.as_bytes())?)?;
-            }
-            Ok(words)
-        }
-        Err(error) if error.kind() == io::ErrorKind::OutOfMemory => Err(AllocError),
-        Err(_) => Ok(words),
-    }
 }
 
 /// Runs over the files and the standard output of this process. No words ask for connections or kept rows yet.
