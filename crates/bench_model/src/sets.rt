@@ -1,5 +1,5 @@
 //! A thousand edits of one slot each.
-ghost use Rattle.std.specs.Prelude.{◌<◌, length, IfSome};
+ghost use Rattle.std.specs.Prelude.{◌≡◌, ◌⊎◌, ◌<◌, length, IfSome, Contains};
 
 use std::alloc::{AllocError, Global};
 use wb_base::List;
@@ -21,15 +21,18 @@ pub fn thousand_sets(alloc: Global, model: &mut Model) -> Result<usize, AllocErr
     Ok(taken)
 }
 
+#[tactic(auto, using(wb_metamodel::proofs::Ranges::class_in_range))]
 fn instances(alloc: Global, model: &Model, class: &[u8]) -> Result<List<ObjectId>, AllocError> {
     match model.metamodel().class_named(class) {
-        Some(c) if c.0 < model.metamodel().class_count() => model.extent(alloc, c),
-        _ => Ok(List::new(alloc)),
+        Some(c) => model.extent(alloc, c),
+        None => Ok(List::new(alloc)),
     }
 }
 
 // The object at this place, counted round; 0 is none's number.
-fn place(objects: &[ObjectId], at: usize) -> ObjectId {
+fn place(objects: &[ObjectId], at: usize) -> ObjectId
+    ensures { result ≡ 0 ⊎ Contains objects.now result }
+{
     if objects.is_empty() {
         return ObjectId(0);
     }
@@ -47,16 +50,9 @@ fn sets(alloc: Global, model: &mut Model, loan: ObjectId, book: ObjectId) -> boo
     }
 }
 
+#[tactic(auto, using(wb_metamodel::proofs::Ranges::class_in_range, wb_metamodel::proofs::Ranges::feature_in_range))]
 fn feature(metamodel: &Metamodel) -> Option<FeatureId>
     ensures { IfSome result (λ f. f < length metamodel.now.features) }
 {
-    let class = metamodel.class_named(b"Loan")?;
-    if class.0 >= metamodel.class_count() {
-        return None;
-    }
-    let f = metamodel.feature_named(class, b"book")?;
-    if f.0 >= metamodel.feature_count() {
-        return None;
-    }
-    Some(f)
+    metamodel.feature_named(metamodel.class_named(b"Loan")?, b"book")
 }

@@ -1,5 +1,5 @@
 -- What an operator gives is within the bounds of a value.
-use Rattle.std.proofs.Common.{◌≡◌, ℕ, Bool, true, false, not, ◌||◌, nat_le, List, ◌++◌, length, Some, None, Result, Ok, Err, IfOk, refl, subst, ◌∙◌, if◌then◌else◌}
+use Rattle.std.proofs.Common.{◌≡◌, ℕ, Bool, true, false, not, ◌||◌, nat_le, List, ◌++◌, length, Some, None, Result, Ok, Err, IfOk, refl, subst, if◌then◌else◌}
 use Rattle.std.specs.Prelude.{ℤ, pos, int_div, neg_ℤ, ◌+ℤ◌, ◌-ℤ◌, ◌*ℤ◌}
 use Rattle.std.specs.Ordering.{int_eq}
 use Rattle.wb_metamodel.specs.Metamodel.{Metamodel}

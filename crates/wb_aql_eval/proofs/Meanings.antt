@@ -18,7 +18,7 @@ use Rattle.wb_aql_values.specs.declared.values.Sort.{Sort}
 use Rattle.wb_aql_values.specs.declared.values.Value.{Value}
 use Rattle.wb_aql_values.specs.declared.values.Value.TheVariants.{Null}
 use Rattle.wb_aql_values.specs.Values.{collection}
-use Rattle.wb_aql_values.specs.Readings.{done, given, ◌>>=◌}
+use Rattle.wb_aql_values.specs.Readings.{done, given}
 use Rattle.wb_aql_eval.specs.Operators.{number, unary}
 use Rattle.wb_aql_eval.specs.Meaning.{meaning, collected, called, after, constant, written, literal, sort_named, operated, chosen, put_last, serviced, serviced_class, service_called, iteration_called, repeated, of_member}
 use Rattle.wb_aql_eval.specs.Features.{feature_of}

@@ -1,10 +1,6 @@
 -- Runs of a feature of an object.
-use Rattle.std.proofs.Common.{◌≡◌, ◌<◌, ℕ, zero, suc, Bool, true, false, List, [], ◌∷◌, length, Some, None, Ok, Err, cond, refl, ap, subst, ◌∙◌, arith}
-use Rattle.std.proofs.lemmas.Bool.{false≢true}
-use Rattle.std.specs.Prelude.{find, slice_get}
-use Rattle.std.specs.Option.{option_map_or}
-use Rattle.wb_ecore.specs.declared.features.Feature.{Feature}
-use Rattle.wb_metamodel.specs.Metamodel.{Metamodel, feature_named, feature_at, features_of, same_name}
+use Rattle.std.proofs.Common.{◌≡◌, ℕ, List, Some, None, Ok, Err, ap, ◌∙◌}
+use Rattle.wb_metamodel.specs.Metamodel.{feature_named}
 use Rattle.wb_store.specs.declared.scalars.Cell.{Cell}
 use Rattle.wb_store.specs.declared.scalars.Cell.TheVariants.{Slot}
 use Rattle.wb_store.specs.Contents.{Contents, slot}
@@ -16,26 +12,6 @@ use Rattle.wb_aql_values.specs.Readings.{contents, Reading, done, held, given, c
 use Rattle.wb_aql_values.specs.Runs.{run, with_read, Gives}
 use Rattle.wb_aql_values.proofs.RunLemmas.{followed, stopped}
 use Rattle.wb_aql_eval.specs.Features.{feature_of_object, known, shown}
-
--- ---- a feature that was found
-
-found_passes : {A : Type 0} (p : A → Bool) (xs : List A) (x : A) → find p xs ≡ Some x → p x ≡ true
-found_passes p [] x e = absurd (let g : ⊥ = cc in g)
-found_passes p (y ∷ ys) x e = one (p y) refl e (found_passes p ys x)
-  where
-    one : (b : Bool) → p y ≡ b → cond b (Some y) (find p ys) ≡ Some x → (find p ys ≡ Some x → p x ≡ true) → p x ≡ true
-    one true t e f = subst (λ z. p z ≡ true) (let g : y ≡ x = cc in g) t
-    one false t e f = f e
-
-below_length : {A : Type 0} (test : A → Bool) (xs : List A) (k : ℕ) → option_map_or test (slice_get xs k) false ≡ true → k < length xs
-below_length test [] k h = absurd (false≢true h)
-below_length test (x ∷ xs) zero h = omega arith
-below_length test (x ∷ xs) (suc k) h = let e = below_length test xs k h in omega arith
-
-pub named_in_range : (mm : Metamodel) (class : ℕ) (name : List ℕ) (f : ℕ) → feature_named mm class name ≡ Some f → f < length mm.features
-named_in_range mm class name f e =
-    below_length (λ (feature : Feature). same_name feature.name name) mm.features f
-    (found_passes (λ g. option_map_or (λ (feature : Feature). same_name feature.name name) (feature_at mm g) false) (features_of mm class) f e)
 
 module _ (m : Contents) (name : List ℕ) (o : ℕ) (old : List Cell) where
   -- what stands in the slot of a feature

@@ -1,5 +1,5 @@
 -- What an expression means: a reading that gives its value, one line for each kind of node.
-use Rattle.std.specs.Prelude.{ℕ, ◌^◌, nat_le, true, false, List, [], ◌∷◌, length, Option, Some, None, Result, Ok, Err, pos, if◌then◌else◌}
+use Rattle.std.specs.Prelude.{ℕ, nat_le, true, false, List, [], ◌∷◌, length, Option, Some, None, Result, Ok, Err, pos, if◌then◌else◌}
 use Rattle.std.specs.Option.{option_map_or}
 use Rattle.wb_metamodel.specs.Metamodel.{Metamodel, class_named, enum_named, literal_named}
 use Rattle.wb_store.specs.declared.scalars.Scalar.{Scalar}

@@ -1,5 +1,5 @@
 -- What is handed to a service is within its bounds.
-use Rattle.std.proofs.Common.{ℕ, List, [], ◌∷◌, All, arith}
+use Rattle.std.proofs.Common.{List, [], ◌∷◌, All, arith}
 use Rattle.wb_metamodel.specs.Metamodel.{Metamodel}
 use Rattle.wb_aql_values.specs.Bounds.{IsBounded}
 use Rattle.wb_aql_services.specs.declared.arguments.Argument.{Argument}

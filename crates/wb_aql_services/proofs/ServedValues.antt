@@ -1,13 +1,11 @@
 -- What a service gives is within the bounds of a value.
 use Rattle.std.specs.Prelude.{⊤}
-use Rattle.std.proofs.Common.{List, [], ◌∷◌, Result, IfOk}
+use Rattle.std.proofs.Common.{List, Result, IfOk}
 use Rattle.wb_store.specs.declared.scalars.Cell.{Cell}
 use Rattle.wb_store.specs.Contents.{Contents}
 use Rattle.wb_aql_check.specs.declared.services.Service.{Service}
 use Rattle.wb_aql_services.specs.declared.arguments.Argument.{Argument}
-use Rattle.wb_aql_services.specs.Asked.{value_in, IsArgument}
-use Rattle.wb_aql_services.specs.declared.arguments.Argument.TheVariants.{Class, Of}
-use Rattle.wb_metamodel.specs.Metamodel.{Metamodel}
+use Rattle.wb_aql_services.specs.Asked.{value_in}
 use Rattle.wb_aql_services.specs.Services.{meaning}
 use Rattle.wb_aql_values.specs.declared.faults.Stop.{Stop}
 use Rattle.wb_aql_values.specs.declared.values.Value.{Value}

@@ -1,5 +1,5 @@
 -- What a service is asked for between its parentheses.
-use Rattle.std.specs.Prelude.{◌≡◌, ⊤, ◌<◌, ℕ, List, [], ◌∷◌, length, Option, None, Some}
+use Rattle.std.specs.Prelude.{⊤, ◌<◌, ℕ, List, ◌∷◌, length, Option, None, Some}
 use Rattle.wb_metamodel.specs.Metamodel.{Metamodel}
 use Rattle.wb_aql_values.specs.declared.values.Value.{Value}
 use Rattle.wb_aql_values.specs.declared.values.Value.TheVariants.{Null}

@@ -1,5 +1,5 @@
 -- The services of collections. A scalar receiver is an ordered set of one, and null an empty one.
-use Rattle.std.specs.Prelude.{ℕ, ℤ, pos, suc, Bool, false, not, nat_eq, ◌-◌, List, [], ◌∷◌, filter, length, slice_get, Option, None, Some}
+use Rattle.std.specs.Prelude.{ℕ, ℤ, pos, suc, Bool, false, not, nat_eq, ◌-◌, List, [], filter, length, slice_get, Option, None, Some}
 use Rattle.std.specs.Option.{option_map_or}
 use Rattle.wb_metamodel.specs.Metamodel.{Metamodel}
 use Rattle.wb_store.specs.declared.scalars.Scalar.{Scalar}

@@ -3,8 +3,8 @@ pub mod Cells
 pub mod Checked
 pub mod Distinct
 pub mod Inherit
-pub mod Known
 pub mod Paths
+pub mod Ranges
 pub mod Ranks
 pub mod ReadNames
 pub mod Resolutions

@@ -7,7 +7,7 @@ use Rattle.wb_store.specs.Places.{once}
 use Rattle.std.proofs.lemmas.Cmp.{tied_itself}
 use Rattle.std.specs.Cmp.{IsTotalOrder}
 use Rattle.std.specs.Ordering.{is_lt, nat_cmp}
-use Rattle.std.specs.FinMap.{FinMap, find, is_sorted, IsAntisymmetric, entries, entries_sorted, get, get-entries, from_entries, get-from_entries, same_map}
+use Rattle.std.specs.FinMap.{FinMap, is_sorted, IsAntisymmetric, entries, entries_sorted, get, get-entries, from_entries, get-from_entries, same_map}
 use Rattle.std.specs.FinMap.Entries.{below_all}
 use Rattle.wb_store.proofs.Members.{In, IsFunctional, find-In, In-find}
 use Rattle.wb_store.proofs.Members.In.{here, there}

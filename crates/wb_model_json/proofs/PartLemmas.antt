@@ -1,5 +1,5 @@
 -- What is true of the objects of a text over a metamodel.
-use Rattle.std.proofs.Common.{◌≡◌, ◌<◌, ◌≤◌, ℕ, ◌+◌, Bool, true, false, ◌&&◌, List, [], ◌∷◌, map, length, Option, Some, None, Result, Ok, Err, refl, sym, ap, ◌∙◌, subst, cond, nat_le, arith}
+use Rattle.std.proofs.Common.{◌≡◌, ◌<◌, ◌≤◌, ℕ, ◌+◌, Bool, true, false, List, [], ◌∷◌, map, length, Option, Some, None, Result, Ok, Err, refl, sym, ap, ◌∙◌, subst, cond, nat_le, arith}
 use Rattle.std.specs.Prelude.{⊤, codes, is_some}
 use Rattle.std.specs.List.{list_all, enumerate_from}
 use Rattle.std.proofs.lemmas.Bool.{and_from, lt-ltb, leb-true, false≢true}
@@ -11,7 +11,7 @@ use Rattle.wb_json.specs.Form.{in_turn, or_wrong}
 use Rattle.wb_json.specs.Form as form
 use Rattle.wb_metamodel.specs.Metamodel.{Metamodel, class_named, feature_at}
 use Rattle.wb_ecore.specs.Resolving.{in_place, walked}
-use Rattle.wb_metamodel.proofs.Known.{class-known}
+use Rattle.wb_metamodel.proofs.Ranges.{class_in_range}
 use Rattle.wb_ecore.specs.declared.features.Feature.{Feature}
 use Rattle.wb_store.specs.declared.scalars.Scalar.{Scalar}
 use Rattle.wb_store.specs.declared.parts.Part.{Part}
@@ -130,7 +130,7 @@ part_of mm text part h =
     let named = found (at_member (codes "class") (or_wrong (class_named mm text.class))) (λ (class : ℕ). slots_for mm class text.slots >>= part_with text class) part h in
     let slots = found (slots_for mm named.value text.slots) (part_with text named.value) part named.then in
     let made = passed (has_repeat (map feature_of slots.value)) (record { id = text.id; class = named.value; slots = slots.value }) part slots.then in
-    let class_known = lt-ltb named.value (length mm.classes) (class-known mm text.class named.value (found_some _ _ (found_within _ _ named.value named.is))) in
+    let class_known = lt-ltb named.value (length mm.classes) (class_in_range mm text.class named.value (found_some _ _ (found_within _ _ named.value named.is))) in
     let slots_known = list_all-map (is_known_slot mm) slot_of slots.value ∙ turn_passes (slot_for mm named.value) (λ slot. is_known_slot mm (slot_of slot)) (slot_for-known mm named.value) text.slots slots.value (found_within _ _ slots.value slots.is) in
     subst (IsPartOf mm text) made.same (record {
       same_id = refl;

@@ -1,5 +1,5 @@
 -- What is written of a row is read as this row again.
-use Rattle.std.proofs.Common.{◌≡◌, ◌<◌, ℕ, Bool, true, false, ◌&&◌, List, [], ◌∷◌, map, length, Some, None, Ok, Err, refl, sym, ap, ◌∙◌, subst, cond, eqb, ltb, arith, Ordering, Less, Equal, Greater}
+use Rattle.std.proofs.Common.{◌≡◌, ◌<◌, ℕ, Bool, true, false, List, [], ◌∷◌, map, length, Some, None, Ok, Err, refl, sym, ap, ◌∙◌, subst, cond, eqb, ltb, arith, Ordering, Less, Equal, Greater}
 use Rattle.std.proofs.lemmas.Bool.{and_parts, false≢true, eqb-true}
 use Rattle.std.proofs.lemmas.Bool.Decides.{nat_tests}
 use Rattle.std.proofs.lemmas.Option.{none-some, same_Some}
@@ -13,7 +13,6 @@ use Rattle.std.specs.Ordering.{nat_cmp, is_lt}
 use Rattle.std.specs.Cmp.Lexicographic.{slice_cmp}
 use Rattle.serde_json.specs.Data.{Data, string, object, no_members, member}
 use Rattle.serde_json.specs.Read.{read}
-use Rattle.serde_json.specs.Written.{compact_text}
 use Rattle.wb_json.specs.Place.{Place}
 use Rattle.wb_json.specs.Form.{◌>>=◌, in_turn, or_wrong, is_name, members_of, object_with}
 use Rattle.wb_json.specs.Json.{json_of}
@@ -23,7 +22,7 @@ use Rattle.wb_metamodel.specs.Metamodel.{Metamodel, same_name, class_at, class_n
 use Rattle.wb_metamodel.specs.WellFormed.{WellFormed}
 use Rattle.wb_ecore.specs.declared.classes.Class.{Class}
 use Rattle.wb_ecore.specs.declared.features.Feature.{Feature}
-use Rattle.wb_metamodel.proofs.Known.{features-known}
+use Rattle.wb_metamodel.proofs.Ranges.{features_in_range}
 use Rattle.wb_store.specs.Features.{is_many}
 use Rattle.wb_validity.proofs.LinkLemmas.{any_found}
 use Rattle.wb_store.proofs.Members.{In, In-all, map-In, Contains-In}
@@ -81,7 +80,7 @@ module _ (mm : Metamodel) (formed : WellFormed mm) (c : ℕ) (known : c < length
   feature-of : (f : ℕ) → In f (features_of mm c) → (feature : Feature) × (feature_at mm f ≡ Some feature)
   feature-of f i =
       let at = Contains-In (features_of mm c) f i in
-      present mm.features f (subst (λ g. g < length mm.features) at.2 (features-known mm c at.0 f at.1))
+      present mm.features f (subst (λ g. g < length mm.features) at.2 (features_in_range mm c at.0 f at.1))
 
   slot-written : (s : RowSlot) → IsRowSlot mm c s → IsWritten mm c (row_slot mm s)
   slot-written s h =
@@ -128,7 +127,7 @@ module _ (mm : Metamodel) (formed : WellFormed mm) (row : ObjectRow) (is : IsRow
   written : (n : NamedSlot) → In n named_slots_in → IsWritten mm row.class n
   written n i =
       let s = map-In (row_slot mm) row.slots n i in
-      subst (IsWritten mm row.class) (sym s.2) (slot-written mm formed row.class is.class_known s.0 (all-In (IsRowSlot mm row.class) row.slots s.0 is.slots s.1))
+      subst (IsWritten mm row.class) (sym s.2) (slot-written mm formed row.class is.class_in_range s.0 (all-In (IsRowSlot mm row.class) row.slots s.0 is.slots s.1))
 
   sorted : by_name named_slots_in ≡ named_slots_in
   sorted = by_name-ascending named_slots_in (names-ascend mm row.slots is.ascending)
@@ -137,11 +136,11 @@ module _ (mm : Metamodel) (formed : WellFormed mm) (row : ObjectRow) (is : IsRow
   slots-read =
       members_of-written slot_of (slot_data mm) (slot_text mm) named_slots_in (λ n i.
       let w = written n (by_name-In named_slots_in n i) in
-      (name-read mm formed row.class is.class_known n w, data-read mm formed row.class is.class_known n w))
+      (name-read mm formed row.class is.class_in_range n w, data-read mm formed row.class is.class_in_range n w))
       ∙ ap (λ (ns : List NamedSlot). Ok (map (named_text mm) ns)) sorted
 
   class-of : (class : Class) × (class_at mm row.class ≡ Some class)
-  class-of = present mm.classes row.class is.class_known
+  class-of = present mm.classes row.class is.class_in_range
 
   class-name : class_name mm row.class ≡ class-of.0.name
   class-name = ap (λ o. option_map_or (λ (class : Class). class.name) o []) class-of.1
@@ -151,7 +150,7 @@ module _ (mm : Metamodel) (formed : WellFormed mm) (row : ObjectRow) (is : IsRow
   row-read =
       ap (λ r. r >>= row_for mm) (row_text_of-read (class_name mm row.class) _ (map (named_text mm) named_slots_in) (ap is_name class-name ∙ formed.classes_are_names row.class class-of.0 class-of.1) slots-read)
       ∙ ap (λ o. or_wrong o >>= (λ (class : ℕ). in_turn (row_slot_for mm class) (map (named_text mm) named_slots_in) >>= row_with class)) (ap (class_named mm) class-name ∙ formed.classes_named row.class class-of.0 class-of.1)
-      ∙ ap (λ r. r >>= row_with row.class) (in_turn-made (row_slot_for mm row.class) (named_text mm) slot_row named_slots_in (λ n i. slot-again mm formed row.class is.class_known n (written n i)))
+      ∙ ap (λ r. r >>= row_with row.class) (in_turn-made (row_slot_for mm row.class) (named_text mm) slot_row named_slots_in (λ n i. slot-again mm formed row.class is.class_in_range n (written n i)))
       ∙ ap (λ slots. Ok (record { class = row.class; slots = slots })) (same-slots mm row.slots)
 
   shallow : IsShallow 3 (data_of_row mm row)

@@ -1,6 +1,6 @@
 -- A row that is read of a value is a row, and its values are what the value says.
-use Rattle.std.proofs.Common.{◌≡◌, ◌<◌, ℕ, pos, negsuc, Bool, true, false, ◌&&◌, List, [], ◌∷◌, map, length, Option, Some, None, Result, Ok, Err, refl, sym, ap, ◌∙◌, subst, cond, eqb, ltb, Ordering, Less, Equal, Greater, ◌^◌, ◌⊎◌}
-use Rattle.std.proofs.lemmas.Bool.{and_parts, and_from, false≢true, lt-ltb, ltb-true}
+use Rattle.std.proofs.Common.{◌≡◌, ◌<◌, ℕ, pos, negsuc, Bool, true, false, List, [], ◌∷◌, map, length, Option, Some, None, Result, Ok, Err, refl, sym, ap, ◌∙◌, subst, cond, eqb, ltb, Ordering, Less, Equal, Greater, ◌^◌}
+use Rattle.std.proofs.lemmas.Bool.{and_parts, and_from, lt-ltb}
 use Rattle.std.proofs.lemmas.Option.{none-some, same_Some, slice_get_within}
 use Rattle.std.proofs.lemmas.Slice.Eq.{bytes_eq-Decides}
 use Rattle.std.specs.Prelude.{codes, slice_get, unwrap_or, ⊤}
@@ -21,13 +21,13 @@ use Rattle.wb_ecore.specs.declared.classes.Enumeration.{Enumeration}
 use Rattle.wb_ecore.specs.declared.features.Feature.{Feature}
 use Rattle.wb_ecore.specs.declared.features.Kind.{Kind}
 use Rattle.wb_ecore.specs.declared.features.Kind.TheVariants as kinds
-use Rattle.wb_metamodel.proofs.Known.{class-known}
+use Rattle.wb_metamodel.proofs.Ranges.{class_in_range}
 use Rattle.wb_ecore.proofs.Positions.{position-Some}
 use Rattle.wb_store.specs.declared.scalars.Scalar.{Scalar}
 use Rattle.wb_store.specs.declared.scalars.Scalar.TheVariants as scalars
 use Rattle.wb_validity.specs.Valid.{has_feature}
 use Rattle.wb_store.proofs.Found.{is_itself}
-use Rattle.wb_store.proofs.Members.{In, In-all, any_In}
+use Rattle.wb_store.proofs.Members.{In, any_In}
 use Rattle.wb_store.proofs.Members.In.{here, there}
 use Rattle.wb_model_json.specs.declared.model_text.ScalarText.{ScalarText}
 use Rattle.wb_model_json.specs.declared.model_text.ScalarText.TheVariants.{Number, Flag, Words}
@@ -261,7 +261,7 @@ row-of mm text row h =
     let c = bound (or_wrong (class_named mm text.class)) (λ (class : ℕ). in_turn (row_slot_for mm class) text.slots >>= row_with class) row h in
     let slots = bound (in_turn (row_slot_for mm c.value) text.slots) (row_with c.value) row c.then in
     subst (IsReadRow mm text) (same_Ok (record { class = c.value; slots = slots.value }) row slots.then) (record {
-      class_known = class-known mm text.class c.value (given _ c.value c.is);
+      class_known = class_in_range mm text.class c.value (given _ c.value c.is);
       names = turn-keeps (row_slot_for mm c.value) (λ (y : List ℕ × SlotText). y.0) (slot_name mm) (λ y s e. (slot-read mm c.value y s e).named) text.slots slots.value slots.is;
       slots = turn-each (row_slot_for mm c.value) (λ (s : RowSlot). (name : List ℕ) × IsReadSlot mm c.value name s) (λ y s e. (y.0, slot-read mm c.value y s e)) text.slots slots.value slots.is;
     })

@@ -1,5 +1,5 @@
 -- What is written of a model is a value that its text spells.
-use Rattle.std.proofs.Common.{◌≡◌, ◌≤◌, ℕ, ◌^◌, Bool, true, false, ◌&&◌, List, [], ◌∷◌, map, pos, negsuc, Some, None, refl, sym, ◌∙◌, subst, cond, ltb, arith}
+use Rattle.std.proofs.Common.{◌≡◌, ◌≤◌, ℕ, ◌^◌, Bool, true, false, List, [], ◌∷◌, map, pos, negsuc, Some, None, refl, sym, subst, cond, ltb, arith}
 use Rattle.std.proofs.lemmas.Bool.{and_parts, and_from, ltb-true}
 use Rattle.std.proofs.lemmas.Bool.Decides.{nat_tests}
 use Rattle.std.proofs.lemmas.Str.{IsUtf8-from_is_utf8, IsUtf8-nil}
@@ -21,7 +21,7 @@ use Rattle.wb_metamodel.specs.WellFormed.{WellFormed}
 use Rattle.wb_ecore.specs.declared.classes.Enumeration.{Enumeration}
 use Rattle.wb_store.specs.declared.scalars.Scalar.{Scalar}
 use Rattle.wb_store.specs.declared.scalars.Scalar.TheVariants as scalars
-use Rattle.wb_store.specs.Contents.{Contents, kind}
+use Rattle.wb_store.specs.Contents.{Contents}
 use Rattle.wb_store.specs.Features.{is_many}
 use Rattle.wb_validity.specs.Valid.{Valid}
 use Rattle.wb_store.proofs.Members.{In, In-all, map-In}

@@ -6,7 +6,7 @@ use Rattle.std.specs.List.{list_all}
 use Rattle.std.specs.Option.{option_map_or}
 use Rattle.std.specs.FinMap.{entries, nat_cmp-IsAntisymmetric}
 use Rattle.wb_metamodel.specs.Metamodel.{features_of}
-use Rattle.wb_store.specs.Contents.{Contents, Filled, members, kind, slot}
+use Rattle.wb_store.specs.Contents.{Contents, Filled, members, slot}
 use Rattle.wb_validity.specs.Valid.{Valid, IsValid, is_of_class, has_feature}
 use Rattle.wb_validity.proofs.LinkLemmas.{any_found}
 use Rattle.wb_model.proofs.Live.{kind-at}

@@ -1,8 +1,8 @@
 -- What is written has numbers of 64 bits, members that ascend, and few levels.
-use Rattle.std.proofs.Common.{◌≡◌, ℕ, suc, ◌≤◌, List, [], ◌∷◌, map, sym, subst, arith}
+use Rattle.std.proofs.Common.{ℕ, suc, ◌≤◌, List, [], ◌∷◌, map, sym, subst, arith}
 use Rattle.serde_json.specs.Data.{Data, object, depth, items_depth, members_depth}
 use Rattle.serde_json.specs.View.{items_of}
-use Rattle.wb_json.specs.ToJson.{list_json, members_json, put_all}
+use Rattle.wb_json.specs.ToJson.{list_json, members_json}
 use Rattle.wb_json.proofs.Ascending.{IsBelowAll}
 use Rattle.wb_model_json.specs.ByName.{by_name}
 use Rattle.wb_model_json.proofs.ByName.{json_members, put_all-by_name, IsBelowEach, Ascend, by_name-ascend}

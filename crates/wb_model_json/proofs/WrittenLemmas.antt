@@ -1,5 +1,5 @@
 -- What is written of a model has no float in it.
-use Rattle.std.proofs.Common.{◌≡◌, ℕ, true, false, List, [], ◌∷◌, Option, Some, None, cond, refl, ap, ◌∙◌}
+use Rattle.std.proofs.Common.{◌≡◌, ℕ, true, false, List, [], ◌∷◌, Option, Some, None, cond, refl, ap}
 use Rattle.std.specs.Prelude.{◌||◌}
 use Rattle.serde_json.specs.Written.{has_float}
 use Rattle.wb_json.specs.ToJson.{list_json}

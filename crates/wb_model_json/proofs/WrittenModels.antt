@@ -1,6 +1,6 @@
 -- What is written of a valid model is read as this model again.
-use Rattle.std.proofs.Common.{◌≡◌, ◌<◌, ◌≤◌, ℕ, ◌^◌, Bool, true, false, ◌&&◌, ◌||◌, List, [], ◌∷◌, ◌++◌, map, length, Some, None, Ok, Err, refl, sym, ap, ◌∙◌, subst, cond, eqb, ltb, leb, arith}
-use Rattle.std.proofs.lemmas.Bool.{and_from, false≢true, ltb-true, eqb-true, le-leb}
+use Rattle.std.proofs.Common.{◌≡◌, ◌≤◌, ℕ, ◌^◌, Bool, true, false, List, [], ◌∷◌, map, length, Some, None, Ok, Err, refl, sym, ap, ◌∙◌, subst, cond, eqb, ltb, arith}
+use Rattle.std.proofs.lemmas.Bool.{and_from, eqb-true, le-leb}
 use Rattle.std.proofs.lemmas.Bool.Decides.{nat_tests}
 use Rattle.std.proofs.lemmas.Cmp.{nat_cmp_total}
 use Rattle.std.proofs.lemmas.List.{length-map}
@@ -9,7 +9,7 @@ use Rattle.std.specs.Prelude.{⊤, codes, filter}
 use Rattle.std.specs.List.{list_all, flat_map}
 use Rattle.std.specs.Option.{option_map_or}
 use Rattle.std.specs.Ordering.{nat_cmp}
-use Rattle.std.specs.FinMap.{entries, keys, len, len-entries, from_entries, nat_cmp-IsAntisymmetric}
+use Rattle.std.specs.FinMap.{entries, keys, len-entries, from_entries, nat_cmp-IsAntisymmetric}
 use Rattle.serde_json.specs.Data.{Data, number, array, object, no_members, member, unsigned}
 use Rattle.serde_json.specs.View.{items_of}
 use Rattle.wb_json.specs.Place.{at_member}
@@ -21,23 +21,21 @@ use Rattle.wb_metamodel.specs.WellFormed.{WellFormed}
 use Rattle.wb_store.specs.declared.scalars.Scalar.{Scalar}
 use Rattle.wb_store.specs.declared.parts.Part.{Part}
 use Rattle.wb_validity.specs.Broken.{broken}
-use Rattle.wb_store.specs.Contents.{Contents, Filled, members, slot_cmp, kind, slot}
+use Rattle.wb_store.specs.Contents.{Contents, Filled, members, slot_cmp, slot}
 use Rattle.wb_store.specs.Parts.{slot_of, record_of, made_of, is_listed, is_listed_slot}
 use Rattle.wb_store.specs.Records.{kind_entry, filled, slot_entry, slot_entries}
 use Rattle.wb_store.specs.Features.{is_many}
-use Rattle.wb_store.specs.Places.{once}
 use Rattle.wb_validity.specs.Valid.{Valid, IsValid, is_of_class, has_feature}
 use Rattle.wb_store.proofs.Found.{is_itself}
 use Rattle.wb_validity.proofs.LinkLemmas.{any_found}
 use Rattle.wb_model.proofs.Live.{kind-at, kind-some}
 use Rattle.wb_model.proofs.Made.{none_miswritten}
 use Rattle.wb_store.proofs.Maps.{slot_cmp_total, slot_cmp-IsAntisymmetric}
-use Rattle.wb_store.proofs.Members.{In, In-all, all_In, any_In, In-map, map-In, In-flat_map, flat_map-In, Contains-In, from_entries-same}
+use Rattle.wb_store.proofs.Members.{In, In-all, all_In, any_In, In-map, map-In, In-flat_map, flat_map-In, from_entries-same}
 use Rattle.wb_store.proofs.Members.In.{here, there}
 use Rattle.wb_model_json.specs.declared.model_text.ObjectText.{ObjectText}
 use Rattle.wb_model_json.specs.declared.model_text.ModelText.{ModelText}
 use Rattle.wb_model_json.specs.declared.refusal.ModelCode.TheVariants.{BadJson, BadShape, TooMany, DuplicateObject, UnknownName}
-use Rattle.wb_model_json.specs.ByName.{by_name}
 use Rattle.wb_model_json.specs.ModelFile.{few, repeat_from, id_of, repeated_at, unrepeated, part_for, parts_for, read_text, checked_parts, judged, made, model}
 use Rattle.wb_model_json.specs.ModelText.{object_of, model_of}
 use Rattle.wb_model_json.specs.Refusals.{◌>>=◌, coded}
@@ -48,7 +46,7 @@ use Rattle.wb_model_json.proofs.Entries.{entry-get, get-entry, from_entries-entr
 use Rattle.wb_model_json.proofs.Unbroken.{unbroken}
 use Rattle.wb_model_json.proofs.Unrepeated.{once-none}
 use Rattle.wb_model_json.proofs.WrittenForms.{list_of-written, walked-made}
-use Rattle.wb_model_json.proofs.WrittenObjects.{named_slots_of, object_text, object_part, entry-kind, slot-entry, named-origin, of_object, slot-written, all-written, next-small, object-small, class-known, object-read, object-again}
+use Rattle.wb_model_json.proofs.WrittenObjects.{named_slots_of, object_text, object_part, slot-entry, named-origin, of_object, slot-written, all-written, next-small, object-small, class-known, object-read, object-again}
 use Rattle.wb_model_json.proofs.WrittenScalars.{map-same}
 use Rattle.wb_model_json.proofs.WrittenSlots.{NamedSlot, named_part, same-feature}
 

@@ -1,6 +1,6 @@
 -- What is written of an object of a valid model is read as this object again.
 use Rattle.std.proofs.Common.{◌≡◌, ◌<◌, ℕ, zero, suc, ◌^◌, Bool, true, false, ◌&&◌, List, [], ◌∷◌, map, length, Some, None, Ok, refl, sym, ap, ◌∙◌, subst, cond, ltb, leb, arith}
-use Rattle.std.proofs.lemmas.Bool.{and_parts, false≢true, ltb-true, lt-ltb}
+use Rattle.std.proofs.lemmas.Bool.{and_parts, false≢true, ltb-true}
 use Rattle.std.proofs.lemmas.Bool.Decides.{nat_tests}
 use Rattle.std.proofs.lemmas.Cmp.{nat_cmp_total}
 use Rattle.std.specs.Prelude.{codes, filter, slice_get}
@@ -13,10 +13,10 @@ use Rattle.wb_metamodel.specs.Metamodel.{class_at, feature_at, features_of}
 use Rattle.wb_metamodel.specs.WellFormed.{WellFormed}
 use Rattle.wb_ecore.specs.declared.classes.Class.{Class}
 use Rattle.wb_ecore.specs.declared.features.Feature.{Feature}
-use Rattle.wb_metamodel.proofs.Known.{features-known}
+use Rattle.wb_metamodel.proofs.Ranges.{features_in_range}
 use Rattle.wb_store.specs.declared.scalars.Scalar.{Scalar}
 use Rattle.wb_store.specs.declared.parts.Part.{Part}
-use Rattle.wb_store.specs.Contents.{Contents, Filled, members, slot_cmp, kind, slot}
+use Rattle.wb_store.specs.Contents.{Contents, Filled, members, kind, slot}
 use Rattle.wb_store.specs.Features.{is_many}
 use Rattle.wb_validity.specs.Valid.{Valid, every_slot, is_of_kind, is_of_feature}
 use Rattle.wb_store.proofs.Maps.{slot_cmp_total, slot_cmp-IsAntisymmetric}
@@ -96,7 +96,7 @@ module _ (m : Contents) (formed : WellFormed m.metamodel) (v : Valid m) (s : IsS
   feature-of : (c f : ℕ) → In f (features_of m.metamodel c) → (feature : Feature) × (feature_at m.metamodel f ≡ Some feature)
   feature-of c f i =
       let at = Contains-In (features_of m.metamodel c) f i in
-      present m.metamodel.features f (subst (λ g. g < length m.metamodel.features) at.2 (features-known m.metamodel c at.0 f at.1))
+      present m.metamodel.features f (subst (λ g. g < length m.metamodel.features) at.2 (features_in_range m.metamodel c at.0 f at.1))
 
   of-kind : (f : ℕ) (feature : Feature) (value : Scalar) → feature_at m.metamodel f ≡ Some feature → is_of_feature m f value ≡ true → is_of_kind m feature.kind value ≡ true
   of-kind f feature value is h = sym (ap (λ o. option_map_or (λ (feature : Feature). is_of_kind m feature.kind value) o false) is) ∙ h

@@ -1,5 +1,5 @@
 -- What is written of an object of a valid model is the text of its row.
-use Rattle.std.proofs.Common.{◌≡◌, ◌<◌, ℕ, true, ◌&&◌, List, [], ◌∷◌, map, length, Some, refl, sym, ap, ◌∙◌, subst, eqb}
+use Rattle.std.proofs.Common.{◌≡◌, ℕ, true, List, [], ◌∷◌, map, length, Some, refl, sym, ap, ◌∙◌, subst, eqb}
 use Rattle.std.proofs.lemmas.Bool.{and_from}
 use Rattle.std.proofs.lemmas.Cmp.{nat_cmp_total}
 use Rattle.std.proofs.lemmas.Option.{same_Some}
@@ -25,7 +25,6 @@ use Rattle.wb_validity.specs.Valid.{Valid}
 use Rattle.wb_store.proofs.Found.{is_itself}
 use Rattle.wb_store.proofs.Members.{In, In-all, any_In}
 use Rattle.wb_store.proofs.Members.In.{here, there}
-use Rattle.wb_model_json.specs.ByName.{by_name}
 use Rattle.wb_model_json.specs.ModelFile.{value_for}
 use Rattle.wb_model_json.specs.Rows.{slot_name, row_slot, data_of_row, text_of_row, names_ascend, IsSaid, IsRowSlot, IsRow, IsTextOf, slot_row, row_of}
 use Rattle.wb_model_json.specs.Sayable.{is_sayable, IsSayable}

@@ -9,7 +9,7 @@ use Rattle.wb_metamodel.specs.Checks.{is_name_of}
 use Rattle.std.specs.Option.{option_or}
 use Rattle.std.specs.Ordering.{is_lt}
 use Rattle.wb_json.specs.Place.{at_member}
-use Rattle.wb_json.specs.Form.{in_turn, or_wrong, is_name}
+use Rattle.wb_json.specs.Form.{or_wrong, is_name}
 use Rattle.wb_json.proofs.Ascending.{IsBelow}
 use Rattle.wb_metamodel.specs.Metamodel.{Metamodel, class_at, feature_at, feature_named, features_of, numbers}
 use Rattle.wb_metamodel.specs.WellFormed.{WellFormed}
@@ -24,7 +24,7 @@ use Rattle.wb_store.proofs.Members.{In, Contains-In, map-In}
 use Rattle.wb_store.proofs.Members.In.{here, there}
 use Rattle.wb_model_json.specs.declared.model_text.SlotText.{SlotText}
 use Rattle.wb_model_json.specs.declared.model_text.ObjectText.{ObjectText}
-use Rattle.wb_model_json.specs.ModelFile.{values_for, slot_with, slot_named, slot_for, slots_for, feature_of, has_repeat, part_with, part_for}
+use Rattle.wb_model_json.specs.ModelFile.{values_for, slot_with, slot_named, slot_for, slots_for, feature_of, part_with, part_for}
 use Rattle.wb_model_json.specs.ModelText.{slot_of}
 use Rattle.wb_model_json.specs.Refusals.{◌>>=◌}
 use Rattle.wb_model_json.specs.Sayable.{is_sayable}

@@ -1,5 +1,5 @@
 -- What the text of a model says: its objects by number, each with its class and its slots by name.
-use Rattle.std.specs.Prelude.{ℕ, true, false, [], ◌∷◌, is_some, option_map, Result, Ok, Err, codes, if◌then◌else◌}
+use Rattle.std.specs.Prelude.{true, false, [], ◌∷◌, is_some, option_map, Result, Ok, Err, codes, if◌then◌else◌}
 use Rattle.serde_json.specs.Data.{Data, null, boolean, number, string, array, object}
 use Rattle.serde_json.specs.Find.{as_i64, as_array}
 use Rattle.wb_json.specs.Place.{Place}

@@ -1,5 +1,5 @@
 -- The last step of a run, and what the run decides on.
-use Rattle.std.proofs.Common.{◌≡◌, ◌∙◌, sym, ap, subst, ℕ, ◌≤◌, true, false, List, [], ◌∷◌, ◌++◌, length, take, append-nil, Option, Some, None, IfSome, Result, Ok, Err, IfOk, refl}
+use Rattle.std.proofs.Common.{◌≡◌, ◌∙◌, sym, ap, subst, ℕ, true, false, List, [], ◌∷◌, ◌++◌, length, take, Option, Some, None, IfSome, Result, Ok, Err, IfOk, refl}
 use Rattle.workbench.specs.declared.status.Status.TheVariants.{Done}
 use Rattle.workbench.specs.declared.answer.Answer.{Answer}
 use Rattle.workbench.specs.declared.answer.Stop.{Stop}

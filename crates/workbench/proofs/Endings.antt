@@ -1,5 +1,5 @@
 -- How a run ends, of what it decides on and what the sink answers.
-use Rattle.std.proofs.Common.{◌≡◌, ◌∙◌, sym, ap, subst, ℕ, Bool, true, false, List, [], ◌∷◌, Option, Some, None, IfSome, IfOk, Result, ◌⊎◌, inl, inr, refl}
+use Rattle.std.proofs.Common.{◌≡◌, ◌∙◌, sym, ap, subst, ℕ, Bool, true, false, List, Option, Some, None, IfSome, IfOk, Result, inl, inr, refl}
 use Rattle.wb_outer.specs.Faults.{Rose}
 use Rattle.workbench.specs.declared.status.Status.{Status}
 use Rattle.workbench.specs.declared.status.Status.TheVariants.{Done, ShelfFault, SinkFault, NoMemory}

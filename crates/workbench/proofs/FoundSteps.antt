@@ -1,5 +1,5 @@
 -- What a private reader finds is a step that asks nothing of the shelf.
-use Rattle.std.proofs.Common.{◌≡◌, ◌∙◌, sym, ap, ℕ, ◌≤◌, List, [], ◌∷◌, ◌++◌, append-nil, Option, Some, None, IfSome, Result, Ok, Err, arith, subst}
+use Rattle.std.proofs.Common.{◌≡◌, ◌∙◌, sym, ap, ℕ, List, [], append-nil, Option, Some, None, IfSome, Result, Ok, Err, arith, subst}
 use Rattle.workbench.specs.declared.answer.Answer.{Answer}
 use Rattle.workbench.specs.declared.answer.Stop.{Stop}
 use Rattle.workbench.specs.declared.answer.Stop.TheVariants as stop

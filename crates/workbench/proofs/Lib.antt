@@ -3,7 +3,6 @@ pub mod FoundSteps
 pub mod OnTop
 pub mod OverMetamodels
 pub mod Prefixes
-pub mod Ranges
 pub mod Searches
 pub mod StepLemmas
 pub mod TakenFiles

@@ -1,5 +1,5 @@
 -- A search over a list, element by element.
-use Rattle.std.proofs.Common.{◌≡◌, ℕ, List, [], ◌∷◌, ◌++◌, Option, Some, None, Err, refl, sym, ap, ◌∙◌, append_assoc, append-nil}
+use Rattle.std.proofs.Common.{◌≡◌, List, [], ◌∷◌, ◌++◌, Option, Some, None, Err, refl, sym, ap, ◌∙◌, append_assoc, append-nil}
 use Rattle.workbench.specs.Search.{each, ◌>>=◌}
 use Rattle.workbench.specs.Refusal.{Finds}
 use Rattle.workbench.specs.declared.refusal.Refusal.{Refusal}

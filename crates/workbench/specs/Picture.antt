@@ -1,5 +1,5 @@
 -- What a thin viewpoint declares for a model: the nodes in order, how they look, and the picture that is served.
-use Rattle.std.specs.Prelude.{ℕ, ◌-◌, ◌<◌, Bool, zero, suc, List, [], ◌∷◌, ◌++◌, length, map, filter, find, Option, Some, None, slice_get, if◌then◌else◌}
+use Rattle.std.specs.Prelude.{ℕ, ◌-◌, Bool, zero, suc, List, [], ◌∷◌, ◌++◌, length, map, filter, find, Option, Some, None, slice_get, if◌then◌else◌}
 use Rattle.std.specs.Option.{option_map_or}
 use Rattle.std.specs.List.{flat_map, filter_map, slice_index_or}
 use Rattle.wb_metamodel.specs.Metamodel.{feature_named, feature_at, first_places}

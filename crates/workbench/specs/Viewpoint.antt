@@ -1,7 +1,7 @@
 -- What the text of a thin viewpoint means for a metamodel.
 -- It is thin where it has one layer and 1 to 16 mappings, each of them named once in `top`; its names are distinct and
 -- name classes; candidates name a reference of the domain class, and labels a single Text feature of the mapping's class.
-use Rattle.std.specs.Prelude.{ℕ, Bool, true, false, not, ◌&&◌, ◌==◌, nat_eq, nat_le, List, [], ◌∷◌, length, Option, Some, None, option_and_then, if◌then◌else◌}
+use Rattle.std.specs.Prelude.{ℕ, Bool, true, false, not, ◌&&◌, ◌==◌, nat_eq, nat_le, List, length, Option, Some, None, option_and_then, if◌then◌else◌}
 use Rattle.std.specs.List.{list_any, list_all, position}
 use Rattle.std.specs.Option.{option_map_or}
 use Rattle.std.specs.Result.{result_ok}

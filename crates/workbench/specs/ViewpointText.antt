@@ -1,5 +1,5 @@
 -- What the text of a thin viewpoint says: all mappings are nodes on top, with features as their candidates and labels.
-use Rattle.std.specs.Prelude.{ℕ, Bool, true, false, not, ◌&&◌, nat_eq, List, [], ◌∷◌, drop, Option, Some, None, option_and_then, Result, Ok, codes, if◌then◌else◌, ⊤}
+use Rattle.std.specs.Prelude.{ℕ, Bool, true, false, not, ◌&&◌, nat_eq, List, [], ◌∷◌, drop, Option, Some, None, option_and_then, Result, Ok, codes, if◌then◌else◌}
 use Rattle.std.specs.List.{list_any, starts_with}
 use Rattle.serde_json.specs.Data.{Data}
 use Rattle.wb_json.specs.Place.{Place}

@@ -43,7 +43,7 @@ fn feature_text<'a>(model: &'a Model, name: &str, object: ObjectId) -> &'a str
 }
 
 // The feature of that name, of the object's class.
-#[tactic(auto, unfolding(crate::specs::Picture::named_feature), using(crate::proofs::Ranges::feature_in_range))]
+#[tactic(auto, unfolding(crate::specs::Picture::named_feature), using(wb_metamodel::proofs::Ranges::feature_in_range))]
 fn named_feature(model: &Model, name: &str, object: ObjectId) -> Option<FeatureId>
     ensures value { result ≡ named_feature model.now name.now object }
     ensures known { IfSome result (λ f. f < length model.now.metamodel.features) }

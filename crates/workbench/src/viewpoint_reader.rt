@@ -163,7 +163,7 @@ fn is_text(kind: Kind) -> bool
     kind == Kind::Text
 }
 
-#[tactic(auto, using(crate::proofs::Ranges::feature_in_range))]
+#[tactic(auto, using(wb_metamodel::proofs::Ranges::feature_in_range))]
 fn has_reference(metamodel: &Metamodel, class: ClassId, name: &str) -> bool
     requires { class < length metamodel.now.classes }
     ensures { result ≡ has_feature metamodel.now (λ f. is_reference f.kind) class name.now }
@@ -174,7 +174,7 @@ fn has_reference(metamodel: &Metamodel, class: ClassId, name: &str) -> bool
     }
 }
 
-#[tactic(auto, using(crate::proofs::Ranges::feature_in_range))]
+#[tactic(auto, using(wb_metamodel::proofs::Ranges::feature_in_range))]
 fn has_single_text(metamodel: &Metamodel, class: ClassId, name: &str) -> bool
     requires { class < length metamodel.now.classes }
     ensures { result ≡ has_feature metamodel.now (λ f. is_text f.kind && not f.many) class name.now }

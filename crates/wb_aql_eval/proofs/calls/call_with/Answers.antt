@@ -1,4 +1,4 @@
-use Rattle.std.proofs.Common.{[], ◌∷◌, sym}
+use Rattle.std.proofs.Common.{sym}
 use Rattle.wb_aql_values.specs.Readings.{contents}
 use Rattle.wb_aql_values.specs.declared.values.Value.TheVariants.{Null}
 use Rattle.wb_aql_values.proofs.RunLemmas.{run_done}

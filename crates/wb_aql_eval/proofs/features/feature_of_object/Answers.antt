@@ -1,4 +1,4 @@
-use Rattle.std.proofs.Common.{◌≡◌, ◌<◌, length, false, Ok, Some, None, sym, ap, subst, ◌∙◌}
+use Rattle.std.proofs.Common.{◌≡◌, ◌<◌, length, false, Ok, Some, sym, ap, subst, ◌∙◌}
 use Rattle.wb_metamodel.specs.Metamodel.{feature_named, feature_at}
 use Rattle.wb_ecore.specs.declared.features.Feature.{Feature}
 use Rattle.std.specs.Option.{option_map_or}
@@ -7,7 +7,8 @@ use Rattle.wb_store.specs.declared.scalars.Cell.TheVariants.{Slot}
 use Rattle.wb_aql_values.specs.Runs.{with_read}
 use Rattle.wb_aql_values.proofs.RunLemmas.{returned}
 use Rattle.wb_aql_eval.specs.Features.{shown}
-use Rattle.wb_aql_eval.proofs.Navigating.{named_in_range, class_stopped, no_feature, a_feature}
+use Rattle.wb_metamodel.proofs.Ranges.{feature_in_range}
+use Rattle.wb_aql_eval.proofs.Navigating.{class_stopped, no_feature, a_feature}
 use Rattle.wb_aql_eval.proofs.features.feature_of_object.Goals as goal
 
 pub returns-in_err-class : goal.returns-in_err-class
@@ -23,7 +24,7 @@ returns-in-None c =
 pub feature-requires : goal.feature-requires
 feature-requires c =
     subst (λ mm. c.in-Some.feature < length mm.features) (sym c.metamodel-in-Some.ensures)
-    (named_in_range c.args.model.now.metamodel c.in_ok-class.class c.args.name.now c.in-Some.feature (ap (λ mm. feature_named mm c.in_ok-class.class c.args.name.now) (sym c.metamodel.ensures) ∙ (ap (λ w. feature_named c.metamodel.result.now c.in_ok-class.class w) (sym c.as_slice.ensures.same) ∙ (sym c.feature_named.ensures ∙ c.in-Some.is))))
+    (feature_in_range c.args.model.now.metamodel c.in_ok-class.class c.args.name.now c.in-Some.feature (ap (λ mm. feature_named mm c.in_ok-class.class c.args.name.now) (sym c.metamodel.ensures) ∙ (ap (λ w. feature_named c.metamodel.result.now c.in_ok-class.class w) (sym c.as_slice.ensures.same) ∙ (sym c.feature_named.ensures ∙ c.in-Some.is))))
 
 pub returns-in_ok-shown-in-Some : goal.returns-in_ok-shown-in-Some
 returns-in_ok-shown-in-Some c =

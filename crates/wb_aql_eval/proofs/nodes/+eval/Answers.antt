@@ -1,4 +1,4 @@
-use Rattle.std.proofs.Common.{rules, arith, ◌≡◌, ◌≤◌, ◌+◌, suc, true, false, [], ◌∷◌, ◌++◌, drop, take, Some, None, is_some, not, Option, Ok, Err, refl, sym, ap, ◌∙◌, subst}
+use Rattle.std.proofs.Common.{rules, arith, ◌≡◌, ◌≤◌, ◌+◌, suc, true, false, [], ◌∷◌, ◌++◌, drop, take, is_some, not, Option, Ok, Err, refl, sym, ap, ◌∙◌, subst}
 use Rattle.std.proofs.lemmas.List.{drop_more, drop_all, take_more, take_all}
 use Rattle.wb_aql_grammar.specs.View.{tree_of, trees_in, arguments_in}
 use Rattle.wb_aql_grammar.proofs.Nodes.{tree_collection, tree_unary, tree_binary, tree_conditional, tree_let_in, tree_feature, tree_call}
@@ -8,7 +8,7 @@ use Rattle.wb_aql_values.specs.declared.values.Value.TheVariants.{Null, One}
 use Rattle.wb_store.specs.declared.scalars.Scalar.{Scalar}
 use Rattle.wb_aql_values.specs.Bounds.{IsBounded}
 use Rattle.wb_aql_values.specs.Values.{collection, members, sort_of, put}
-use Rattle.wb_aql_values.specs.Readings.{contents, done, given, each, gather, of_each, ◌>>=◌}
+use Rattle.wb_aql_values.specs.Readings.{contents, done, given, each, gather, of_each}
 use Rattle.wb_aql_values.specs.Runs.{run, Gives}
 use Rattle.wb_aql_values.proofs.RunLemmas.{followed, stopped, gives_next, returned, nothing_left, left_returned, became_left, run_done, loop_next, loop_stopped, loop_done}
 use Rattle.wb_aql_eval.specs.Operators.{unary, combined, flag}

@@ -1,4 +1,4 @@
-use Rattle.std.proofs.Common.{rules, Err, ◌∙◌, w64}
+use Rattle.std.proofs.Common.{rules, Err, w64}
 use Rattle.std.specs.Prelude.{FitsSigned}
 use Rattle.std.proofs.lemmas.Int.{to_z-of_z}
 use Rattle.wb_aql_eval.specs.Operators.{arithmetic, integer, passing}

@@ -1,4 +1,4 @@
-use Rattle.std.proofs.Common.{◌≡◌, ◌++◌, true, false, Ok, sym, ap, ◌∙◌, if◌then◌else◌}
+use Rattle.std.proofs.Common.{◌++◌, true, false, Ok, sym, ap, ◌∙◌, if◌then◌else◌}
 use Rattle.wb_store.specs.declared.scalars.Cell.TheVariants.{Slot}
 use Rattle.wb_store.specs.Cells.{objects_in}
 use Rattle.wb_store.specs.Contents.{is_containment}

@@ -1,4 +1,4 @@
-use Rattle.std.proofs.Common.{◌≡◌, ◌<◌, ◌≤◌, Ok, Err, length, map, subst, ◌∙◌, arith}
+use Rattle.std.proofs.Common.{◌≡◌, ◌≤◌, Ok, Err, length, map, subst, ◌∙◌, arith}
 use Rattle.wb_store.specs.declared.scalars.Scalar.TheVariants.{Object}
 use Rattle.wb_aql_values.specs.declared.values.Value.TheVariants.{Sequence}
 use Rattle.wb_aql_values.specs.Readings.{contents, done}

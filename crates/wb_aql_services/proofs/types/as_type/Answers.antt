@@ -1,4 +1,4 @@
-use Rattle.std.proofs.Common.{◌≡◌, Ok, sym, ap, ◌∙◌, if◌then◌else◌}
+use Rattle.std.proofs.Common.{Ok, sym, ap, ◌∙◌, if◌then◌else◌}
 use Rattle.wb_aql_values.specs.Readings.{contents, done}
 use Rattle.wb_aql_values.specs.Runs.{run}
 use Rattle.wb_aql_values.proofs.RunLemmas.{returned}

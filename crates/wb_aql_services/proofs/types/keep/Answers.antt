@@ -1,4 +1,4 @@
-use Rattle.std.proofs.Common.{◌≡◌, [], ◌∷◌, ◌++◌, Ok, sym, ap, ◌∙◌}
+use Rattle.std.proofs.Common.{Ok, sym, ap, ◌∙◌}
 use Rattle.wb_aql_services.proofs.FirstLooks.{keep_none, keep_yes, keep_no}
 use Rattle.wb_aql_services.proofs.types.keep.Goals as goal
 

@@ -1,4 +1,4 @@
-use Rattle.std.proofs.Common.{◌≡◌, ◌+◌, ◌-◌, refl, sym, ap, ◌∙◌, arith}
+use Rattle.std.proofs.Common.{◌+◌, ◌-◌, refl, sym, ap, ◌∙◌, arith}
 use Rattle.wb_aql_values.specs.Readings.{contents}
 use Rattle.wb_aql_values.specs.Runs.{run}
 use Rattle.wb_aql_services.specs.Navigation.{climbed, height}

@@ -1,4 +1,4 @@
-use Rattle.std.proofs.Common.{◌≡◌, ◌+◌, ◌-◌, refl, sym, ◌∙◌, arith}
+use Rattle.std.proofs.Common.{◌-◌, refl, sym, ◌∙◌, arith}
 use Rattle.wb_aql_services.specs.Navigation.{height}
 use Rattle.wb_aql_services.proofs.Climbs.{nearest_more, nearest_found, nearest_end, nearest_spent}
 use Rattle.wb_aql_services.proofs.upwards.nearest.Goals as goal

@@ -1,4 +1,4 @@
-use Rattle.std.proofs.Common.{◌≡◌, ◌<◌, length, sym, ◌∙◌, arith}
+use Rattle.std.proofs.Common.{◌<◌, length, sym, ◌∙◌, arith}
 use Rattle.wb_metamodel.specs.Checks.{is_name_of}
 use Rattle.wb_ecore.proofs.Taken.{find-on}
 use Rattle.wb_model_json.proofs.features.feature_anywhere.Goals as goal

@@ -1,4 +1,4 @@
-use Rattle.std.proofs.Common.{◌≡◌, ℕ, List, ap, subst}
+use Rattle.std.proofs.Common.{ℕ, List, ap, subst}
 use Rattle.wb_aql_values.specs.Readings.{contents}
 use Rattle.wb_aql_values.specs.Runs.{Gives, run}
 use Rattle.wb_aql_services.specs.Services.{on_null}

@@ -9,18 +9,18 @@ use Rattle.wb_metamodel.specs.Checks.{is_name_of}
 use Rattle.wb_ecore.proofs.Positions.{position-Some}
 use Rattle.wb_metamodel.proofs.Inherit.{find-member, of-member, member-at}
 
-pub class-known : (mm : Metamodel) (name : List ℕ) (c : ℕ) → class_named mm name ≡ Some c → c < length mm.classes
-class-known mm name c h =
+pub class_in_range : (mm : Metamodel) (name : List ℕ) (c : ℕ) → class_named mm name ≡ Some c → c < length mm.classes
+class_in_range mm name c h =
     let found = position-Some (λ (class : Class). same_name class.name name) mm.classes c h in
     slice_get_within mm.classes c found.0 found.1
 
-pub enum-known : (mm : Metamodel) (name : List ℕ) (e : ℕ) → enum_named mm name ≡ Some e → e < length mm.enumerations
-enum-known mm name e h =
+pub enum_in_range : (mm : Metamodel) (name : List ℕ) (e : ℕ) → enum_named mm name ≡ Some e → e < length mm.enumerations
+enum_in_range mm name e h =
     let found = position-Some (λ (one : Enumeration). same_name one.name name) mm.enumerations e h in
     slice_get_within mm.enumerations e found.0 found.1
 
-pub feature-known : (mm : Metamodel) (c : ℕ) (name : List ℕ) (f : ℕ) → feature_named mm c name ≡ Some f → f < length mm.features
-feature-known mm c name f h = of-member mm c f (find-member (is_name_of mm name) (features_of mm c) f h)
+pub feature_in_range : (mm : Metamodel) (c : ℕ) (name : List ℕ) (f : ℕ) → feature_named mm c name ≡ Some f → f < length mm.features
+feature_in_range mm c name f h = of-member mm c f (find-member (is_name_of mm name) (features_of mm c) f h)
 
-pub features-known : (mm : Metamodel) (c : ℕ) → All (λ f. f < length mm.features) (features_of mm c)
-features-known mm c = λ k d l. of-member mm c (get_or (features_of mm c) k d) (member-at (features_of mm c) k d l)
+pub features_in_range : (mm : Metamodel) (c : ℕ) → All (λ f. f < length mm.features) (features_of mm c)
+features_in_range mm c = λ k d l. of-member mm c (get_or (features_of mm c) k d) (member-at (features_of mm c) k d l)
