@@ -1,5 +1,6 @@
 //! A thousand edits of one slot each.
-ghost use Rattle.std.specs.Prelude.{◌≡◌, ◌⊎◌, ◌<◌, length, IfSome, Contains};
+ghost use Rattle.std.specs.Prelude.{◌≡◌, ◌⊎◌, ◌<◌, length, IfSome};
+ghost use Rattle.std.specs.List.{Contains};
 
 use std::alloc::{AllocError, Global};
 use wb_base::List;
