@@ -15,7 +15,7 @@ use Rattle.wb_ecore.specs.declared.refusal.MetamodelRefusal.{MetamodelRefusal}
 use Rattle.wb_ecore.specs.declared.refusal.MetamodelRefusal.TheVariants.{At, NoMemory}
 use Rattle.wb_ecore.specs.declared.document.Document.{Document}
 use Rattle.wb_ecore.specs.Document.{document_of}
-use Rattle.wb_ecore.specs.Repeats.{none_is, unrepeated_names}
+use Rattle.wb_ecore.specs.Repeats.{◌>>=◌, none_is, unrepeated_names}
 use Rattle.wb_ecore.specs.Resolving.{resolved}
 use Rattle.wb_metamodel.specs.Metamodel.{Metamodel, same_name, names_feature, numbers, is_below, features_of, feature_at, literal_total}
 

@@ -127,7 +127,7 @@ module _ (mm : Metamodel) (formed : WellFormed mm) (row : ObjectRow) (is : IsRow
   written : (n : NamedSlot) → In n named_slots_in → IsWritten mm row.class n
   written n i =
       let s = map-In (row_slot mm) row.slots n i in
-      subst (IsWritten mm row.class) (sym s.2) (slot-written mm formed row.class is.class_in_range s.0 (all-In (IsRowSlot mm row.class) row.slots s.0 is.slots s.1))
+      subst (IsWritten mm row.class) (sym s.2) (slot-written mm formed row.class is.class_known s.0 (all-In (IsRowSlot mm row.class) row.slots s.0 is.slots s.1))
 
   sorted : by_name named_slots_in ≡ named_slots_in
   sorted = by_name-ascending named_slots_in (names-ascend mm row.slots is.ascending)
@@ -136,11 +136,11 @@ module _ (mm : Metamodel) (formed : WellFormed mm) (row : ObjectRow) (is : IsRow
   slots-read =
       members_of-written slot_of (slot_data mm) (slot_text mm) named_slots_in (λ n i.
       let w = written n (by_name-In named_slots_in n i) in
-      (name-read mm formed row.class is.class_in_range n w, data-read mm formed row.class is.class_in_range n w))
+      (name-read mm formed row.class is.class_known n w, data-read mm formed row.class is.class_known n w))
       ∙ ap (λ (ns : List NamedSlot). Ok (map (named_text mm) ns)) sorted
 
   class-of : (class : Class) × (class_at mm row.class ≡ Some class)
-  class-of = present mm.classes row.class is.class_in_range
+  class-of = present mm.classes row.class is.class_known
 
   class-name : class_name mm row.class ≡ class-of.0.name
   class-name = ap (λ o. option_map_or (λ (class : Class). class.name) o []) class-of.1
@@ -150,7 +150,7 @@ module _ (mm : Metamodel) (formed : WellFormed mm) (row : ObjectRow) (is : IsRow
   row-read =
       ap (λ r. r >>= row_for mm) (row_text_of-read (class_name mm row.class) _ (map (named_text mm) named_slots_in) (ap is_name class-name ∙ formed.classes_are_names row.class class-of.0 class-of.1) slots-read)
       ∙ ap (λ o. or_wrong o >>= (λ (class : ℕ). in_turn (row_slot_for mm class) (map (named_text mm) named_slots_in) >>= row_with class)) (ap (class_named mm) class-name ∙ formed.classes_named row.class class-of.0 class-of.1)
-      ∙ ap (λ r. r >>= row_with row.class) (in_turn-made (row_slot_for mm row.class) (named_text mm) slot_row named_slots_in (λ n i. slot-again mm formed row.class is.class_in_range n (written n i)))
+      ∙ ap (λ r. r >>= row_with row.class) (in_turn-made (row_slot_for mm row.class) (named_text mm) slot_row named_slots_in (λ n i. slot-again mm formed row.class is.class_known n (written n i)))
       ∙ ap (λ slots. Ok (record { class = row.class; slots = slots })) (same-slots mm row.slots)
 
   shallow : IsShallow 3 (data_of_row mm row)
