@@ -14,5 +14,3 @@ pub use lexer_laws::{
 };
 pub use token::{Sign, Token};
 
-#[cfg(test)]
-mod lexer_tests;

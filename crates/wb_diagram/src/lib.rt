@@ -8,8 +8,6 @@ mod key_reader;
 mod key_texts;
 mod keys;
 mod problems;
-#[cfg(test)]
-mod tests;
 mod unit_texts;
 mod units;
 mod values;

@@ -9,8 +9,6 @@ mod names;
 mod objects;
 mod pointer;
 mod sequences;
-#[cfg(test)]
-mod tests;
 mod texts;
 mod to_json;
 mod wrong;

@@ -16,5 +16,3 @@ pub use wb_ecore::{
     ClassId, EnumId, Feature, FeatureId, Kind, MetamodelCode, MetamodelRefusal, ObjectId,
 };
 
-#[cfg(test)]
-mod tests;

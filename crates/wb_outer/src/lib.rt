@@ -17,8 +17,6 @@ mod sure_door;
 mod sure_keeper;
 mod sure_shelf;
 mod sure_sink;
-#[cfg(test)]
-mod tests;
 
 pub use bytes::Bytes;
 pub use door::{Door, Got, Next};
