@@ -19,4 +19,3 @@ pub use laws::{
 };
 pub use refusal::CheckRefusal;
 pub use services::{Callee, Iteration, Parameters, Service, service_named};
-

@@ -13,4 +13,3 @@ pub use lexer_laws::{
     each_token_starts, one_lexing, token_stands_behind_space, token_stands_first, tokens_are_within,
 };
 pub use token::{Sign, Token};
-

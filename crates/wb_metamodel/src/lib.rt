@@ -15,4 +15,3 @@ pub use wb_base::Text;
 pub use wb_ecore::{
     ClassId, EnumId, Feature, FeatureId, Kind, MetamodelCode, MetamodelRefusal, ObjectId,
 };
-
