@@ -43,8 +43,8 @@ impl FileShelf {
 // So many bytes are read at once.
 const ROOM: usize = 8192;
 
-// Reads to the end, but no further than the limit needs. A failed read is a failed call.
-fn read_file<R: Read>(alloc: Global, from: &mut R) -> Result<Taken, AllocError>
+/// Reads to the end, but no further than the limit needs. A failed read is a failed call.
+pub fn read_file<R: Read>(alloc: Global, from: &mut R) -> Result<Taken, AllocError>
     ensures told { IfSome (R.remaining from.old) (λ bytes. IfOk result (λ taken. IsUnlessFailed taken (taken_of (Some bytes)))) }
     ensures within { IfOk result IsWithinLimit }
 {

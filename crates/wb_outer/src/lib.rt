@@ -20,13 +20,13 @@ mod sure_sink;
 
 pub use bytes::Bytes;
 pub use door::{Door, Got, Next};
-pub use file_shelf::FileShelf;
+pub use file_shelf::{FileShelf, read_file};
 pub use keeper::{Committed, Keeper, Loaded, Row, RowChange};
 pub use memory_shelf::MemoryShelf;
 pub use memory_sink::MemorySink;
 pub use shelf::{Shelf, Taken};
 pub use sink::{Sink, Wrote};
-pub use stdout_sink::StdoutSink;
+pub use stdout_sink::{StdoutSink, write_whole};
 pub use steps::Steps;
 pub use sure_door::SureDoor;
 pub use sure_keeper::SureKeeper;

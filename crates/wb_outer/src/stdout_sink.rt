@@ -32,8 +32,8 @@ impl StdoutSink {
     }
 }
 
-// Writes the whole piece, in as many writes as it takes. After a failure a front of it was written.
-fn write_whole<W: Write>(to: &mut W, piece: &[u8]) -> Wrote
+/// Writes the whole piece, in as many writes as it takes. After a failure a front of it was written.
+pub fn write_whole<W: Write>(to: &mut W, piece: &[u8]) -> Wrote
     ensures done { result ≡ Wrote.Done → Appends (W.contents to.old) (W.contents to.new) piece.now }
     ensures front { result ≡ Wrote.Failed → AppendsKnownFront (W.contents to.old) (W.contents to.new) piece.now }
 {
