@@ -1,7 +1,7 @@
 #!/usr/bin/env python3
 """Reads, writes and edits libraries of 2,000 and 20,000 objects with a proved program, and prints what each run costs.
 
-Usage, from the top of the checkout, after `(cd crates/bench_model && rt run)` has built the program:
+Usage, from the top of the checkout, after `rt ci` has built the program of `model_cases`:
     python3 bench/models.py
 A library has books, authors, members, and loans with a book and a member each. Instructions are counted with valgrind's callgrind where it
 is installed; seconds are those of one run. What `write` and `set` cost beyond reading is the difference to `read`.
@@ -9,15 +9,19 @@ is installed; seconds are those of one run. What `write` and `set` cost beyond r
 import json, os, subprocess, tempfile, time
 from draw import TOP, cost
 
-PROGRAM = os.path.join(TOP, "crates/bench_model/out/bench_model")
-METAMODEL = os.path.join(TOP, "crates/bench_model/data/metamodel.json")
+PROGRAM = os.path.join(TOP, "crates/model_cases/out/model_cases")
+METAMODEL = os.path.join(TOP, "crates/model_cases/data/library.metamodel.json")
+
+
+def numbers_of(count):
+    """The numbers of the objects behind the first, by kind: of twenty, one is an author, six are books, four are members and nine are loans."""
+    kinds = ["Author"] + ["Book"] * 6 + ["Member"] * 4 + ["Loan"] * 9
+    return {kind: [number for number in range(2, count + 1) if kinds[number % 20] == kind] for kind in set(kinds)}
 
 
 def library(count):
-    """A library of so many objects: of twenty, one is an author, six are books, four are members and nine are loans."""
     objects = {1: {"class": "Library", "id": 1, "slots": {"name": "City"}}}
-    kinds = ["Author"] + ["Book"] * 6 + ["Member"] * 4 + ["Loan"] * 9
-    numbers = {kind: [number for number in range(2, count + 1) if kinds[number % 20] == kind] for kind in set(kinds)}
+    numbers = numbers_of(count)
     for kind, of_kind in numbers.items():
         objects[1]["slots"][kind.lower() + "s"] = of_kind
         for number in of_kind:
@@ -38,6 +42,13 @@ def link(objects, one, feature, other, back):
     objects[other]["slots"].setdefault(back, []).append(one)
 
 
+def scripts(count):
+    """What is asked: nothing but the reading, the text, a thousand edits of the books of loans."""
+    loans, books = numbers_of(count)["Loan"], numbers_of(count)["Book"]
+    edits = [f"set {loans[number * 7919 % len(loans)]} Loan.book @{books[number * 104729 % len(books)]}" for number in range(1000)]
+    return {"read": "", "write": "write", "set": "\n".join(edits)}
+
+
 def seconds(words):
     start = time.perf_counter()
     done = subprocess.run(words, stdout=subprocess.DEVNULL).returncode
@@ -51,8 +62,11 @@ def main():
             path = os.path.join(folder, f"{count}.json")
             with open(path, "w") as file:
                 json.dump(library(count), file, separators=(",", ":"))
-            for task in ("read", "write", "set"):
-                words = [PROGRAM, task, METAMODEL, path]
+            for task, script in scripts(count).items():
+                asked = os.path.join(folder, task)
+                with open(asked, "w") as file:
+                    file.write(script)
+                words = [PROGRAM, METAMODEL, path, asked]
                 took, status = seconds(words)
                 value, unit = cost(words, folder)
                 first.setdefault(task, value)
