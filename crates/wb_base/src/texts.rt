@@ -131,28 +131,3 @@ pub fn is_text(bytes: &[u8]) -> bool
         Err(_) => false,
     }
 }
-
-#[cfg(test)]
-mod tests {
-    use super::*;
-    use crate::lists::List;
-    use std::test::Fail;
-
-    #[test]
-    fn texts_and_lists_are_made_copied_and_compared(rt: HostRuntime) -> Result<(), Fail> {
-        let alloc = rt.alloc();
-        let mut names = List::new(alloc);
-        names.push(Text::from_slice(alloc, "Dune".as_bytes())?)?;
-        names.push(Text::from_str(alloc, "Emma")?)?;
-        let copies = names.copy(alloc)?;
-        assert_eq!(rt; copies.len(), 2);
-        assert!(rt; copies == names);
-        assert!(rt;
-            copies.as_slice()
-                < List::from_vec(vec![in alloc; Text::from_str(alloc, "Emma")?]?).as_slice()
-        );
-        assert!(rt; is_text(b"caf\xc3\xa9".as_slice()));
-        assert!(rt; !is_text(b"caf\xc3".as_slice()));
-        Ok(())
-    }
-}
