@@ -1,0 +1,5 @@
+//! Tests of the crates at the bottom: lists and texts, JSON, and the outside.
+#![tactic(auto)]
+
+#[cfg(test)]
+mod base;
