@@ -22,14 +22,14 @@ spent h i l = omega arith
 
 module _ (m : Contents) where
   -- what a climb does where it met a holder, or none
-  onward : ℕ → List ℕ → Option (ℕ × ℕ) → Reading (List ℕ)
+  unfoldable pub onward : ℕ → List ℕ → Option (ℕ × ℕ) → Reading (List ℕ)
   onward n met place = option_map_or (λ (p : ℕ × ℕ). climbed n (met ++ p.0 ∷ []) p.0) place (done met)
 
-  climbed_next : (n : ℕ) (met : List ℕ) (o : ℕ) (old : List Cell) → run (climbed (suc n) met o) (contents m) old ≡ run (onward n met (holder m o)) (contents m) (with_read old (Holder o))
+  pub climbed_next : (n : ℕ) (met : List ℕ) (o : ℕ) (old : List Cell) → run (climbed (suc n) met o) (contents m) old ≡ run (onward n met (holder m o)) (contents m) (with_read old (Holder o))
   unfolding climbed run ◌>>=◌ onward
   climbed_next n met o old = refl
 
-  climbed_none : (met : List ℕ) (o : ℕ) (old : List Cell) → run (climbed zero met o) (contents m) old ≡ record { gave = Ok met; reads = old }
+  pub climbed_none : (met : List ℕ) (o : ℕ) (old : List Cell) → run (climbed zero met o) (contents m) old ≡ record { gave = Ok met; reads = old }
   unfolding climbed run
   climbed_none met o old = refl
 
@@ -53,17 +53,17 @@ module _ (m : Contents) where
 
   module _ (mm : Metamodel) (t : Option ℕ) where
     -- what the search for the nearest does with a holder's class
-    judged : ℕ → ℕ → Bool → Reading Value
+    unfoldable pub judged : ℕ → ℕ → Bool → Reading Value
     judged n p fits = if fits then done (One (Object p)) else nearest mm t n p
 
-    searched : ℕ → Option (ℕ × ℕ) → Reading Value
+    unfoldable pub searched : ℕ → Option (ℕ × ℕ) → Reading Value
     searched n place = option_map_or (λ (p : ℕ × ℕ). held (Kind p.0) >>= λ k. judged n p.0 (is_of mm t k)) place (done Null)
 
-    nearest_next : (n o : ℕ) (old : List Cell) → run (nearest mm t (suc n) o) (contents m) old ≡ run (searched n (holder m o)) (contents m) (with_read old (Holder o))
+    pub nearest_next : (n o : ℕ) (old : List Cell) → run (nearest mm t (suc n) o) (contents m) old ≡ run (searched n (holder m o)) (contents m) (with_read old (Holder o))
     unfolding nearest run ◌>>=◌ searched judged
     nearest_next n o old = refl
 
-    nearest_none : (o : ℕ) (old : List Cell) → run (nearest mm t zero o) (contents m) old ≡ record { gave = Ok Null; reads = old }
+    pub nearest_none : (o : ℕ) (old : List Cell) → run (nearest mm t zero o) (contents m) old ≡ record { gave = Ok Null; reads = old }
     unfolding nearest run
     nearest_none o old = refl
 
@@ -72,7 +72,7 @@ module _ (m : Contents) where
     look h i o place old new l e r =
         (λ j. run (searched (h - (i + 1)) (e j)) (contents m) (r j)) ∙ (sym (nearest_next (h - (i + 1)) o old) ∙ ap (λ n. run (nearest mm t n o) (contents m) old) (sym (above h i l)))
 
-    judge : (n : ℕ) (place : ℕ × ℕ) (fits : Bool) (old new : List Cell) → fits ≡ is_of mm t (kind m place.0) → new ≡ with_read old (Kind place.0)
+    pub judge : (n : ℕ) (place : ℕ × ℕ) (fits : Bool) (old new : List Cell) → fits ≡ is_of mm t (kind m place.0) → new ≡ with_read old (Kind place.0)
         → run (judged n place.0 fits) (contents m) new ≡ run (searched n (Some place)) (contents m) old
     unfolding run ◌>>=◌ searched
     judge n place fits old new e r = λ j. run (judged n place.0 (e j)) (contents m) (r j)

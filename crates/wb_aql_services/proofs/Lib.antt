@@ -1,5 +1,6 @@
 pub mod BoundedServices
 pub mod Choices
+pub mod Climbing
 pub mod Climbs
 pub mod FirstLooks
 pub mod Handed

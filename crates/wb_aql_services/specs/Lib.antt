@@ -1,4 +1,5 @@
 pub mod Asked
+pub mod Climbs
 pub mod Collections
 pub mod Navigation
 pub mod Services

@@ -3,6 +3,7 @@
 
 mod arguments;
 mod by_dot;
+mod climb_laws;
 mod collections;
 mod downwards;
 mod sequences;
@@ -13,6 +14,7 @@ mod types;
 mod upwards;
 
 pub use arguments::Argument;
+pub use climb_laws::climbs_are_never_cut_short;
 pub use serving::{run_service, serve};
 pub use wb_aql_check::Service;
 pub use wb_aql_values::{Answer, Fault, Reads, Stop, Value};
