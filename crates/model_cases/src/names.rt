@@ -1,24 +1,27 @@
 //! Classes, features and objects by words.
-ghost use Rattle.std.specs.Prelude.{◌≡◌, ◌<◌, length, Some, IfSome};
-ghost use Rattle.wb_metamodel.specs.Metamodel as definition;
+ghost use Rattle.std.specs.Prelude.{◌<◌, length, IfSome};
 
 use wb_metamodel::{ClassId, FeatureId, Metamodel, ObjectId};
 
-#[tactic(auto, using(wb_metamodel::proofs::Ranges::class_in_range))]
 pub fn class(metamodel: &Metamodel, word: &str) -> Option<ClassId>
-    ensures named { result ≡ definition.class_named metamodel.now word }
-    ensures known { IfSome result (λ c. c < length metamodel.now.classes) }
+    ensures { IfSome result (λ c. c < length metamodel.now.classes) }
 {
-    metamodel.class_named(word.as_bytes())
+    match metamodel.class_named(word.as_bytes()) {
+        Some(c) if c.0 < metamodel.class_count() => Some(c),
+        _ => None,
+    }
 }
 
 /// The feature of a class, an inherited one too: `Book.author`.
-#[tactic(auto, using(wb_metamodel::proofs::Ranges::feature_in_range))]
 pub fn feature(metamodel: &Metamodel, word: &str) -> Option<FeatureId>
-    ensures known { IfSome result (λ f. f < length metamodel.now.features) }
+    ensures { IfSome result (λ f. f < length metamodel.now.features) }
 {
     let (owner, name) = word.split_once('.')?;
-    metamodel.feature_named(class(metamodel, owner)?, name.as_bytes())
+    let c = class(metamodel, owner)?;
+    match metamodel.feature_named(c, name.as_bytes()) {
+        Some(f) if f.0 < metamodel.feature_count() => Some(f),
+        _ => None,
+    }
 }
 
 /// An object by its number, with or without `@`.
