@@ -3,8 +3,10 @@
 
 mod duplicate;
 mod lists;
+mod names;
 mod texts;
 
 pub use duplicate::Duplicate;
 pub use lists::List;
+pub use names::is_name;
 pub use texts::{Text, is_text};
