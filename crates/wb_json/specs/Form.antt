@@ -1,19 +1,24 @@
 -- Forms of JSON values. A form is a function from a value to what it stands for,
 -- or to the first wrong place in it. The walk visits a value before its parts.
-use Rattle.std.specs.Prelude.{ℕ, ℤ, ◌^◌, ◌&&◌, ◌||◌, ◌==◌, nat_eq, nat_le, nat_lt, List, [], ◌∷◌, ◌++◌, length, Bool, false, if◌then◌else◌, Option, Some, None, is_some, option_and_then, Result, Ok, Err, ◌≡◌, ⊤}
-use Rattle.std.specs.List.{list_all, list_any, enumerate_from}
-use Rattle.std.specs.Cmp.Lexicographic.{pointwise}
+use Rattle.std.specs.Prelude.{ℕ, ℤ, ◌^◌, nat_eq, nat_lt, List, [], ◌∷◌, ◌++◌, Bool, if◌then◌else◌, Option, Some, None, is_some, option_and_then, Result, Ok, Err, ◌≡◌, ⊤}
+use Rattle.std.specs.List.{list_any, enumerate_from}
 use Rattle.serde_json.specs.Data.{Data, Items, no_items, item, Members, no_members, member}
 use Rattle.serde_json.specs.Find.{get, as_null, as_bool, as_str, as_array, as_object, as_number, as_i64, as_u64}
+pub use Rattle.wb_base.specs.Results.{◌>>=◌}
+pub use Rattle.wb_base.specs.Names.{same_name, is_name}
+use Rattle.wb_base.specs.Answering.{AsDefined}
 use Rattle.wb_json.specs.Place.{Place, at_member, at_index}
 use Rattle.wb_json.specs.declared.wrong.Wrong.{Wrong}
 use Rattle.wb_json.specs.declared.wrong.Wrong.TheVariants.{At, NoMemory}
 
+-- the place that a refusal names; want of memory names none
+abbrev pub place_of : Wrong → Option Place
+place_of (At place) = Some place
+place_of NoMemory = None
+
 -- what the code answers is what the form gives; only for want of memory it may answer nothing
 abbrev pub Gives : {A : Type 0} → Result A Wrong → Result A Place → Type 0
-Gives (Ok v) given = given ≡ Ok v
-Gives (Err (At place)) given = given ≡ Err place
-Gives (Err NoMemory) given = ⊤
+Gives result given = AsDefined place_of given result
 
 -- the same wrong place, seen through this step
 abbrev pub Within : Place → Wrong → Wrong → Type 0
@@ -28,11 +33,6 @@ IsPlaced (Err _) wrong = wrong ≡ NoMemory
 
 -- ---- steps in turn: the first wrong place ends the walk
 
-abbrev pub ◌>>=◌ : {A B : Type 0} → Result A Place → (A → Result B Place) → Result B Place
-(Ok v) >>= next = next v
-(Err place) >>= next = Err place
-
-infixl 20 ◌>>=◌
 -- the value, or else the whole is wrong
 abbrev pub or_wrong : {A : Type 0} → Option A → Result A Place
 or_wrong (Some v) = Ok v
@@ -60,22 +60,6 @@ integer_of d = or_wrong (option_and_then as_i64 (as_number d))
 abbrev pub u32_of : Data → Result ℕ Place
 u32_of d = or_wrong (option_and_then (λ n. if nat_lt n (2 ^ 32) then Some n else None) (option_and_then as_u64 (as_number d)))
 
--- an ASCII letter, or `_`
-abbrev pub is_name_start : ℕ → Bool
-is_name_start c = (nat_le 65 c && nat_le c 90) || (nat_le 97 c && nat_le c 122) || (c == 95)
-
--- that, or an ASCII digit
-abbrev pub is_name_byte : ℕ → Bool
-is_name_byte c = is_name_start c || (nat_le 48 c && nat_le c 57)
-
-abbrev pub starts_name : List ℕ → Bool
-starts_name [] = false
-starts_name (c ∷ cs) = is_name_start c
-
--- a name: a letter or `_`, then letters, digits and `_`, at most 64 bytes
-unfoldable pub is_name : List ℕ → Bool
-is_name text = nat_le (length text) 64 && starts_name text && list_all is_name_byte text
-
 abbrev pub name_of : Data → Result (List ℕ) Place
 name_of d = text_of d >>= (λ text. if is_name text then Ok text else Err [])
 
@@ -86,7 +70,7 @@ nullable form d = if is_some (as_null d) then Ok None else form d >>= (λ v. Ok 
 -- one of some words, each of which means a value
 abbrev pub meaning_of : {A : Type 0} → List (List ℕ × A) → List ℕ → Option A
 meaning_of [] word = None
-meaning_of (w ∷ ws) word = if pointwise nat_eq w.0 word then Some w.1 else meaning_of ws word
+meaning_of (w ∷ ws) word = if same_name w.0 word then Some w.1 else meaning_of ws word
 
 abbrev pub word_of : {A : Type 0} → List (List ℕ × A) → Data → Result A Place
 word_of words d = text_of d >>= (λ text. or_wrong (meaning_of words text))
@@ -122,7 +106,7 @@ object_with p d = or_wrong (as_object d) >>= (λ ms. names_pass p ms)
 
 -- is this one of the names?
 abbrev pub is_one_of : List (List ℕ) → List ℕ → Bool
-is_one_of names name = list_any (λ n. pointwise nat_eq n name) names
+is_one_of names name = list_any (λ n. same_name n name) names
 
 -- an object with no member but the listed ones
 abbrev pub listed : List (List ℕ) → Data → Result ⊤ Place

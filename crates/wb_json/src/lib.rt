@@ -2,6 +2,7 @@
 #![tactic(auto)]
 
 mod choices;
+mod file_refusal;
 mod form;
 mod member_names;
 mod members;
@@ -14,12 +15,14 @@ mod to_json;
 mod wrong;
 
 pub use choices::chosen;
+pub use file_refusal::{FileRefusal, at_root, coded};
 pub use form::Form;
 pub use member_names::listed;
 pub use members::Members;
-pub use names::{Name, is_name};
+pub use names::Name;
 pub use objects::{has, list_or_empty, needed, optional};
 pub use serde_json::Value;
 pub use texts::{parse_json, write_json};
 pub use to_json::{ToJson, to_text};
+pub use wb_base::is_name;
 pub use wrong::Wrong;

@@ -5,10 +5,10 @@ ghost use Rattle.serde_json.specs.View.{view, members_view};
 ghost use Rattle.wb_json.specs.Form.{Gives, listed, is_name, is_one_of, names_pass, object_with};
 
 use crate::choices::is_same;
-use crate::names::is_name;
 use crate::wrong::Wrong;
 use serde_json::{Map, Value};
 use std::alloc::Global;
+use wb_base::is_name;
 
 /// An object with no member but these.
 #[tactic(auto, unfolding(crate::specs::Form::object_with))]

@@ -1,13 +1,13 @@
 ghost use Rattle.std.specs.Prelude.{◌≡◌, true, IfOk};
-ghost use Rattle.std.specs.List.{list_all};
-ghost use Rattle.wb_json.specs.Form.{is_name, starts_name, is_name_start, is_name_byte, name_of};
+ghost use Rattle.wb_base.specs.Names.{is_name};
+ghost use Rattle.wb_json.specs.Form.{name_of};
 
 use crate::form::Form;
 use crate::wrong::Wrong;
 use serde_json::Value;
 use std::alloc::{AllocError, Global};
 use std::marker::Model;
-use wb_base::Text;
+use wb_base::{Text, is_name};
 
 /// A name: an ASCII letter or `_`, then letters, digits and `_`, at most 64 bytes.
 #[derive(Debug, Drop)]
@@ -17,7 +17,7 @@ pub struct Name {
 
 impl Model for Name {
     ghost use Rattle.std.specs.Prelude.{List, ℕ, IsTrue};
-    ghost use Rattle.wb_json.specs.Form.{is_name};
+    ghost use Rattle.wb_base.specs.Names.{is_name};
 
     ghost Value = { List ℕ };
 
@@ -51,39 +51,6 @@ impl Name {
     {
         self.text
     }
-}
-
-/// Is this text a name?
-#[tactic(auto, unfolding(crate::specs::Form::is_name))]
-pub fn is_name(text: &str) -> bool
-    ensures { result ≡ is_name text.now }
-{
-    let bytes = text.as_bytes();
-    bytes.len() <= 64 && starts_name(bytes) && are_name_bytes(bytes)
-}
-
-fn starts_name(bytes: &[u8]) -> bool
-    ensures { result ≡ starts_name bytes.now }
-{
-    !bytes.is_empty() && is_name_start(bytes[0])
-}
-
-fn are_name_bytes(bytes: &[u8]) -> bool
-    ensures { result ≡ list_all is_name_byte bytes.now }
-{
-    bytes.iter().all(|byte| is_name_byte(*byte))
-}
-
-fn is_name_start(byte: u8) -> bool
-    ensures { result ≡ is_name_start byte }
-{
-    byte.is_ascii_alphabetic() || byte == b'_'
-}
-
-fn is_name_byte(byte: u8) -> bool
-    ensures { result ≡ is_name_byte byte }
-{
-    byte.is_ascii_alphanumeric() || byte == b'_'
 }
 
 impl Form for Name {
