@@ -16,3 +16,4 @@ pub mod Parts
 pub mod Picks
 pub mod Growing
 pub mod Texts
+pub mod Written

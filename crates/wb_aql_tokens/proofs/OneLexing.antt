@@ -6,7 +6,7 @@ use Rattle.std.specs.Str.{byte}
 use Rattle.std.proofs.lemmas.Bool.{and_from}
 use Rattle.std.proofs.lemmas.Bool.Decides.{nat_tests}
 use Rattle.std.proofs.lemmas.List.{append_cancel_left}
-use Rattle.wb_aql_tokens.specs.Lexes.{word_of, is_name, is_name_start, is_blank, is_within, starts_name, Quotes, Spelling, IsNext, NoToken, Lexes, lexes_end, lexes_blank, lexes_token, lexes_bad}
+use Rattle.wb_aql_tokens.specs.Lexes.{word_of, is_expression_name, is_name_start, is_blank, is_within, starts_name, Quotes, Spelling, IsNext, NoToken, Lexes, lexes_end, lexes_blank, lexes_token, lexes_bad}
 use Rattle.wb_aql_tokens.specs.declared.characters.Start.TheVariants as b
 use Rattle.wb_aql_tokens.specs.declared.token.Token.{Token}
 use Rattle.wb_aql_tokens.specs.declared.token.Token.TheVariants.{Sign, Name, Integer, Quoted, Bad}
@@ -26,7 +26,7 @@ same_quotes value known front q r =
     (same_pieces q.means r.means _ _ tails (quote_stops []) (quote_stops [])).1
 
 -- a name is no reserved word, and no sign
-no_sign_name : (sign : SignName) → is_name (word_of sign) ≡ true → ⊥
+pub no_sign_name : (sign : SignName) → is_expression_name (word_of sign) ≡ true → ⊥
 no_sign_name sign h = let name = name_parts (word_of sign) h in elim (shape sign) [
   | is_word _ _ _ reserved ↦ true≢false (sym reserved ∙ name.free)
   | is_short f _ ↦ let wrong : Some b.Word ≡ Some b.Sign = sym (spelled_start (Name (word_of sign)) (word_of sign) (refl, h)) ∙ f in cc
@@ -34,7 +34,7 @@ no_sign_name sign h = let name = name_parts (word_of sign) h in elim (shape sign
 ]
 
 sign_or_name : (sign : SignName) (name front : List ℕ) → Spelling (Sign sign) front → Spelling (Name name) front → ⊥
-sign_or_name sign name front h k = no_sign_name sign (subst (λ bytes. is_name bytes ≡ true) (sym k.0 ∙ h) k.1)
+sign_or_name sign name front h k = no_sign_name sign (subst (λ bytes. is_expression_name bytes ≡ true) (sym k.0 ∙ h) k.1)
 
 pub one_spelled : (x y : Token) (front : List ℕ) → Spelling x front → Spelling y front → x ≡ y
 one_spelled (Integer n) y front h k =

@@ -69,8 +69,8 @@ starts_name [] = false
 starts_name (c ∷ cs) = is_name_start c
 
 -- a name: a letter or `_`, then letters, digits and `_`, at most 64 bytes, and no reserved word
-unfoldable pub is_name : List ℕ → Bool
-is_name bytes = nat_le (length bytes) 64 && starts_name bytes && list_all is_name_byte bytes && not (is_reserved bytes)
+unfoldable pub is_expression_name : List ℕ → Bool
+is_expression_name bytes = nat_le (length bytes) 64 && starts_name bytes && list_all is_name_byte bytes && not (is_reserved bytes)
 
 -- ---- integers
 
@@ -112,14 +112,14 @@ is_quotable value = nat_le (length value) 65536 && is_utf8 value
 -- these bytes alone spell the token; an integer here is of any size
 abbrev pub Spelling : Token → List ℕ → Type 0
 Spelling (Sign sign) bytes = bytes ≡ word_of sign
-Spelling (Name name) bytes = (bytes ≡ name) × (is_name name ≡ true)
+Spelling (Name name) bytes = (bytes ≡ name) × (is_expression_name name ≡ true)
 Spelling (Integer n) bytes = IsNumeral 10 bytes × (n ≡ digits_value 10 bytes)
 Spelling (Quoted value) bytes = Quotes value bytes × (is_quotable value ≡ true)
 Spelling Bad bytes = ⊥
 
 -- the bounds of a token
 abbrev pub is_within : Token → Bool
-is_within (Name name) = is_name name
+is_within (Name name) = is_expression_name name
 is_within (Integer n) = nat_le n largest_integer
 is_within (Quoted value) = is_quotable value
 is_within _ = true
