@@ -1,0 +1,36 @@
+ghost use Rattle.std.specs.Prelude.{◌≡◌, ◌≤◌, length};
+
+use std::marker::Model;
+use wb_base::Text;
+
+/// An expression as a viewpoint's text has it: any text of at most 4,096 bytes, with its prefix.
+#[derive(Drop)]
+pub struct ExpressionText {
+    text: Text,
+}
+
+impl Model for ExpressionText {
+    ghost use Rattle.std.specs.Prelude.{List, ℕ, ◌≤◌, length};
+
+    ghost Value = { List ℕ };
+
+    ghost view = { λ e. e.text };
+
+    ghost invariant = { λ e. length e.text ≤ 4096 };
+}
+
+impl ExpressionText {
+    pub(crate) fn new(text: Text) -> ExpressionText
+        requires { length text ≤ 4096 }
+        ensures { result ≡ text }
+    {
+        ExpressionText { text }
+    }
+
+    pub fn as_str(&self) -> &str
+        ensures same { result.now ≡ self.now }
+        ensures few { length result.now ≤ 4096 }
+    {
+        self.text.as_str()
+    }
+}

@@ -1,0 +1,30 @@
+//! Viewpoints: what a viewpoint's text says, and reading it.
+#![tactic(auto)]
+
+mod content;
+mod edges;
+mod expression_texts;
+mod filters;
+mod layers;
+mod mappings;
+mod nodes;
+mod objects;
+mod operations;
+mod refusal;
+mod styles;
+mod tools;
+mod viewpoint;
+
+pub use content::Content;
+pub use edges::{EdgeMapping, Ends, ObjectEdge};
+pub use expression_texts::ExpressionText;
+pub use filters::Filter;
+pub use layers::{Layer, Layers};
+pub use mappings::{Mapping, MappingForm};
+pub use nodes::{NodeKind, NodeMapping};
+pub use objects::Objects;
+pub use operations::{Action, Operation, Operations};
+pub use refusal::ViewpointCode;
+pub use styles::{ConditionalStyle, Looks, Style};
+pub use tools::{Tool, ToolKind};
+pub use viewpoint::Viewpoint;
