@@ -1,11 +1,10 @@
 -- The JSON of a diagram and of its parts. The members of each object ascend by their bytes.
-use Rattle.std.specs.Prelude.{ℕ, ℤ, ◌<◌, List, [], ◌∷◌, length, map, codes, All}
-use Rattle.std.specs.Option.{option_map_or}
+use Rattle.std.specs.Prelude.{ℕ, ℤ, ◌<◌, List, [], ◌∷◌, length, codes, All}
 use Rattle.std.specs.List.{slice_index_or}
 use Rattle.serde_json.specs.Data.{Data, null, string, number, unsigned, array, object, item, no_items, no_members, member}
 use Rattle.serde_json.specs.Find.{of_integer}
-use Rattle.serde_json.specs.View.{items_of}
 use Rattle.serde_json.specs.Written.{compact_text}
+use Rattle.wb_json.specs.ToJson.{list_json, option_json}
 use Rattle.wb_diagram.specs.Keys.{IsPath, JoinsPaths, own_pair, parent_pairs, key_text, path_text, edge_key_text}
 use Rattle.wb_diagram.specs.Units.{NamesPaths, unit_text}
 use Rattle.wb_diagram.specs.declared.keys.Pair.{Pair}
@@ -38,10 +37,6 @@ pub record IsWritableDiagram (names : List (List ℕ)) (d : Diagram) : Type 0 wh
 abbrev pub whole_number : ℕ → Data
 whole_number n = number (unsigned n)
 
--- a list of values, each as its JSON
-unfoldable pub list_data : {A : Type 0} → (A → Data) → List A → Data
-list_data data_of items = array (items_of (map data_of items))
-
 -- the key of the parent, or null where that is the diagram
 abbrev pub path_data : List Pair → Data
 path_data [] = null
@@ -60,7 +55,7 @@ element_data names e =
     (member (codes "mapping") (string (name_of names (own_pair e.key).mapping))
     (member (codes "object") (whole_number (own_pair e.key).object)
     (member (codes "parent") (path_data (parent_pairs e.key))
-    (member (codes "position") (option_map_or place_data e.position null)
+    (member (codes "position") (option_json place_data e.position)
     (member (codes "shape") (string e.look.shape)
     no_members))))))))
 
@@ -83,11 +78,11 @@ problem_data problem = object (member (codes "at") (string (unit_text problem.at
 unfoldable pub diagram_data : List (List ℕ) → Diagram → Data
 diagram_data names d =
     object
-    (member (codes "edges") (list_data (edge_data names) d.edges)
-    (member (codes "elements") (list_data (element_data names) d.elements)
-    (member (codes "filters") (list_data string d.filters)
-    (member (codes "layers") (list_data string d.layers)
-    (member (codes "problems") (list_data problem_data d.problems)
+    (member (codes "edges") (list_json (edge_data names) d.edges)
+    (member (codes "elements") (list_json (element_data names) d.elements)
+    (member (codes "filters") (list_json string d.filters)
+    (member (codes "layers") (list_json string d.layers)
+    (member (codes "problems") (list_json problem_data d.problems)
     (member (codes "revision") (whole_number d.revision)
     no_members))))))
 

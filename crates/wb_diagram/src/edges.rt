@@ -8,7 +8,7 @@ use crate::diagrams::Edge;
 use crate::elements::{look_members, put_pair};
 use crate::key_texts::push_edge_key;
 use crate::keys::{EdgeKey, Pair};
-use crate::values::{ToJson, put_path};
+use crate::values::{Shown, put_path};
 use serde_json::{Map, Value};
 use std::alloc::{AllocError, Global};
 use wb_base::Text;
@@ -37,13 +37,13 @@ fn put_ends(
     put_path(members, alloc, "target", key.target.pairs.as_slice())
 }
 
-impl ToJson for Edge {
+impl Shown for Edge {
     ghost is_writable = { IsWritableEdge };
 
     ghost data_of = { edge_data };
 
     #[tactic(auto, unfolding(crate::specs::Diagrams::edge_data))]
-    fn to_json(&self, alloc: Global, names: &[Text]) -> Result<Value, AllocError> {
+    fn shown(&self, alloc: Global, names: &[Text]) -> Result<Value, AllocError> {
         let semantic = Pair {
             mapping: self.key.mapping,
             object: self.key.object,
@@ -63,6 +63,6 @@ pub fn write_edge(alloc: Global, edge: &Edge, names: &[Text]) -> Result<Text, Al
     requires { IsWritableEdge names.now edge.now }
     ensures { IfOk result (λ text. text ≡ edge_text names.now edge.now) }
 {
-    let value = edge.to_json(alloc, names)?;
+    let value = edge.shown(alloc, names)?;
     write_json(alloc, &value)
 }

@@ -1,14 +1,14 @@
 ghost use Rattle.std.specs.Prelude.{◌≡◌, ◌<◌, codes, length, OnOk, IfOk};
-ghost use Rattle.std.specs.Option.{option_map_or};
-ghost use Rattle.serde_json.specs.Data.{null, string, object, member, no_members, put as with_member};
+ghost use Rattle.serde_json.specs.Data.{string, object, member, no_members, put as with_member};
 ghost use Rattle.serde_json.specs.View.{view, members_view};
+ghost use Rattle.wb_json.specs.ToJson.{option_json};
 ghost use Rattle.wb_diagram.specs.Keys.{IsPath, own_pair, parent_pairs};
 ghost use Rattle.wb_diagram.specs.Diagrams.{IsWritableElement, element_data, element_text, name_of, path_data, place_data, whole_number};
 
 use crate::diagrams::{Element, Look};
 use crate::key_texts::path_string;
 use crate::keys::{Key, Pair};
-use crate::values::{ToJson, put_path, put_text};
+use crate::values::{Shown, put_path, put_text};
 use serde_json::{Map, Value, json};
 use std::alloc::{AllocError, Global};
 use wb_base::Text;
@@ -53,7 +53,7 @@ fn parent_value(alloc: Global, key: &Key) -> Result<Value, AllocError>
 }
 
 fn position_value(alloc: Global, position: Option<(i64, i64)>) -> Result<Value, AllocError>
-    ensures { IfOk result (λ value. view value ≡ option_map_or place_data position null) }
+    ensures { IfOk result (λ value. view value ≡ option_json place_data position) }
 {
     match position {
         None => Ok(Value::Null),
@@ -91,7 +91,7 @@ fn put_place(
 ) -> Result<(), AllocError>
     requires { IsPath element.now.key }
     ensures { OnOk result (members_view members.new.entries
-        ≡ with_member (codes "position") (option_map_or place_data element.now.position null)
+        ≡ with_member (codes "position") (option_json place_data element.now.position)
         (with_member (codes "parent") (path_data (parent_pairs element.now.key)) (members_view members.old.entries))) }
 {
     let parent = parent_value(alloc, &element.key)?;
@@ -100,13 +100,13 @@ fn put_place(
     serde_json::put(members, alloc, "position", position)
 }
 
-impl ToJson for Element {
+impl Shown for Element {
     ghost is_writable = { IsWritableElement };
 
     ghost data_of = { element_data };
 
     #[tactic(auto, unfolding(crate::specs::Diagrams::element_data))]
-    fn to_json(&self, alloc: Global, names: &[Text]) -> Result<Value, AllocError> {
+    fn shown(&self, alloc: Global, names: &[Text]) -> Result<Value, AllocError> {
         let mut members = look_members(alloc, &self.look)?;
         put_path(&mut members, alloc, "key", self.key.pairs.as_slice())?;
         put_pair(&mut members, alloc, last_pair(&self.key), names)?;
@@ -121,6 +121,6 @@ pub fn write_element(alloc: Global, element: &Element, names: &[Text]) -> Result
     requires { IsWritableElement names.now element.now }
     ensures { IfOk result (λ text. text ≡ element_text names.now element.now) }
 {
-    let value = element.to_json(alloc, names)?;
+    let value = element.shown(alloc, names)?;
     write_json(alloc, &value)
 }

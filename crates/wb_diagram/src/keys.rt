@@ -16,7 +16,7 @@ pub struct Key {
 }
 
 /// The key of an edge: its mapping, its semantic object, and the elements at its ends.
-#[derive(Debug, Drop, PartialEq, Eq, PartialOrd, Ord, Hash)]
+#[derive(Debug, PartialEq, Eq, PartialOrd, Ord, Hash)]
 pub struct EdgeKey {
     pub mapping: u32,
     pub object: ObjectId,
@@ -24,11 +24,31 @@ pub struct EdgeKey {
     pub target: Key,
 }
 
+impl Drop for EdgeKey {
+    fn drop(self) {
+        let EdgeKey {
+            mapping: _,
+            object: _,
+            source: _source,
+            target: _target,
+        } = self;
+    }
+}
+
 /// The key of an element of either sort.
-#[derive(Debug, Drop, PartialEq, Eq, PartialOrd, Ord, Hash)]
+#[derive(Debug, PartialEq, Eq, PartialOrd, Ord, Hash)]
 pub enum AnyKey {
     Node(Key),
     Edge(EdgeKey),
+}
+
+impl Drop for AnyKey {
+    fn drop(self) {
+        match self {
+            AnyKey::Node(_key) => {}
+            AnyKey::Edge(_key) => {}
+        }
+    }
 }
 
 impl Duplicate for Pair {

@@ -5,7 +5,7 @@ ghost use Rattle.wb_diagram.specs.Diagrams.{problem_data};
 use crate::diagrams::Problem;
 use crate::unit_texts::push_unit;
 use crate::units::Unit;
-use crate::values::{ToJson, put_text};
+use crate::values::{Shown, put_text};
 use serde_json::{Map, Value};
 use std::alloc::{AllocError, Global};
 use wb_base::Text;
@@ -19,13 +19,13 @@ fn unit_string(alloc: Global, unit: &Unit) -> Result<String, AllocError>
     Ok(text)
 }
 
-impl ToJson for Problem {
+impl Shown for Problem {
     ghost is_writable = { λ _ problem. NamesPaths problem.at };
 
     ghost data_of = { λ _ problem. problem_data problem };
 
     #[tactic(auto, unfolding(crate::specs::Diagrams::problem_data))]
-    fn to_json(&self, alloc: Global, _names: &[Text]) -> Result<Value, AllocError> {
+    fn shown(&self, alloc: Global, _names: &[Text]) -> Result<Value, AllocError> {
         let at = unit_string(alloc, &self.at)?;
         let mut members = Map::new(alloc);
         serde_json::put(&mut members, alloc, "at", Value::String(at))?;

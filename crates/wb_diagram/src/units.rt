@@ -1,7 +1,7 @@
 use crate::keys::{AnyKey, Key, Pair};
 
 /// An expression of a viewpoint at a place of the diagram: what is evaluated, and kept, by itself.
-#[derive(Debug, Drop, PartialEq, Eq, PartialOrd, Ord, Hash)]
+#[derive(Debug, PartialEq, Eq, PartialOrd, Ord, Hash)]
 pub enum Unit {
     /// The candidates of a mapping under an element, or under the diagram itself.
     Candidates { mapping: u32, parent: Option<Key> },
@@ -21,4 +21,32 @@ pub enum Unit {
     Label { style: u32, key: AnyKey },
     /// The predicate of a filter, counted from 0.
     Filter { filter: u32, key: AnyKey },
+}
+
+impl Drop for Unit {
+    fn drop(self) {
+        match self {
+            Unit::Candidates {
+                mapping: _,
+                parent: _parent,
+            } => {}
+            Unit::Precondition { key: _key } => {}
+            Unit::EdgeCandidates { mapping: _ } => {}
+            Unit::EdgePrecondition { pair: _ } => {}
+            Unit::Source { pair: _ } => {}
+            Unit::Target { pair: _ } => {}
+            Unit::Style {
+                style: _,
+                key: _key,
+            } => {}
+            Unit::Label {
+                style: _,
+                key: _key,
+            } => {}
+            Unit::Filter {
+                filter: _,
+                key: _key,
+            } => {}
+        }
+    }
 }

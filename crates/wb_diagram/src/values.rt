@@ -1,39 +1,40 @@
-ghost use Rattle.std.specs.Prelude.{◌≡◌, List, ℕ, All, OnOk, IfOk};
+ghost use Rattle.std.specs.Prelude.{◌≡◌, List as Listed, ℕ, All, OnOk, IfOk};
 ghost use Rattle.serde_json.specs.Data.{Data, string, put as with_member};
 ghost use Rattle.serde_json.specs.View.{view, members_view};
 ghost use Rattle.wb_diagram.specs.Keys.{path_text};
-ghost use Rattle.wb_diagram.specs.Diagrams.{list_data};
+ghost use Rattle.wb_json.specs.ToJson.{list_json};
 
 use crate::key_texts::path_string;
 use crate::keys::Pair;
 use serde_json::{Map, Value};
 use std::alloc::{AllocError, Global};
-use wb_base::Text;
+use wb_base::{List, Text};
+use wb_json::ToJson;
 
-// What is written as JSON, given the names of the mappings.
-pub(crate) trait ToJson {
-    ghost is_writable: { List (List ℕ) → Self → Type 0 };
+// A part of a diagram, which is written as JSON by the names of the mappings.
+pub(crate) trait Shown {
+    ghost is_writable: { Listed (Listed ℕ) → Self → Type 0 };
 
-    ghost data_of: { List (List ℕ) → Self → Data };
+    ghost data_of: { Listed (Listed ℕ) → Self → Data };
 
-    fn to_json(&self, alloc: Global, names: &[Text]) -> Result<Value, AllocError>
+    fn shown(&self, alloc: Global, names: &[Text]) -> Result<Value, AllocError>
         requires { is_writable names.now self.now }
         ensures { IfOk result (λ value. view value ≡ data_of names.now self.now) };
 }
 
 // The list of the items' values.
-#[tactic(auto, unfolding(crate::specs::Diagrams::list_data))]
-pub(crate) fn list_value<T: ToJson>(
+#[tactic(auto, unfolding(wb_json::specs::ToJson::list_json))]
+pub(crate) fn list_value<T: Shown>(
     alloc: Global,
     items: &[T],
     names: &[Text],
 ) -> Result<Value, AllocError>
     requires { All (T.is_writable names.now) items.now }
-    ensures { IfOk result (λ value. view value ≡ list_data (T.data_of names.now) items.now) }
+    ensures { IfOk result (λ value. view value ≡ list_json (T.data_of names.now) items.now) }
 {
     let mut values = Vec::new(alloc);
     for item in items {
-        values.push(item.to_json(alloc, names)?)?;
+        values.push(item.shown(alloc, names)?)?;
     }
     Ok(Value::Array(values))
 }
@@ -53,7 +54,7 @@ pub(crate) fn put_text(
 }
 
 // Adds a member that is a list.
-pub(crate) fn put_list<T: ToJson>(
+pub(crate) fn put_list<T: Shown>(
     members: &mut Map<String, Value>,
     alloc: Global,
     name: &str,
@@ -62,7 +63,7 @@ pub(crate) fn put_list<T: ToJson>(
 ) -> Result<(), AllocError>
     requires { All (T.is_writable names.now) items.now }
     ensures { OnOk result (members_view members.new.entries
-        ≡ with_member name.now (list_data (T.data_of names.now) items.now) (members_view members.old.entries)) }
+        ≡ with_member name.now (list_json (T.data_of names.now) items.now) (members_view members.old.entries)) }
 {
     let value = list_value(alloc, items, names)?;
     serde_json::put(members, alloc, name, value)
@@ -82,12 +83,16 @@ pub(crate) fn put_path(
     serde_json::put(members, alloc, name, Value::String(text))
 }
 
-impl ToJson for Text {
-    ghost is_writable = { λ _ _. Unit {0} };
-
-    ghost data_of = { λ _ text. string text };
-
-    fn to_json(&self, alloc: Global, _names: &[Text]) -> Result<Value, AllocError> {
-        Ok(Value::String(String::from_str(alloc, self.as_str())?))
-    }
+// Adds a member that is a list of texts.
+pub(crate) fn put_texts(
+    members: &mut Map<String, Value>,
+    alloc: Global,
+    name: &str,
+    texts: &List<Text>,
+) -> Result<(), AllocError>
+    ensures { OnOk result (members_view members.new.entries
+        ≡ with_member name.now (list_json string texts.now) (members_view members.old.entries)) }
+{
+    let value = texts.to_json(alloc)?;
+    serde_json::put(members, alloc, name, value)
 }

@@ -3,7 +3,7 @@ ghost use Rattle.serde_json.specs.View.{view};
 ghost use Rattle.wb_diagram.specs.Diagrams.{IsWritableDiagram, diagram_data, diagram_text};
 
 use crate::diagrams::Diagram;
-use crate::values::put_list;
+use crate::values::{put_list, put_texts};
 use serde_json::{Map, Value};
 use std::alloc::{AllocError, Global};
 use wb_base::Text;
@@ -29,20 +29,8 @@ fn diagram_value(alloc: Global, diagram: &Diagram, names: &[Text]) -> Result<Val
         diagram.elements.as_slice(),
         names,
     )?;
-    put_list(
-        &mut members,
-        alloc,
-        "filters",
-        diagram.filters.as_slice(),
-        names,
-    )?;
-    put_list(
-        &mut members,
-        alloc,
-        "layers",
-        diagram.layers.as_slice(),
-        names,
-    )?;
+    put_texts(&mut members, alloc, "filters", &diagram.filters)?;
+    put_texts(&mut members, alloc, "layers", &diagram.layers)?;
     put_list(
         &mut members,
         alloc,
