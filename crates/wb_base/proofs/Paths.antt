@@ -1,5 +1,5 @@
 -- The test `leads_through` holds exactly where a path leads.
-use Rattle.std.proofs.Common.{◌≡◌, ℕ, Bool, true, false, cond, eqb, List, [], ◌∷◌, refl, subst, ◌↔◌, inl, inr, ⊎_elim, ◌⊎◌}
+use Rattle.std.proofs.Common.{◌≡◌, ℕ, Bool, true, false, cond, eqb, List, [], ◌∷◌, refl, sym, subst, ◌↔◌, inl, inr, ⊎_elim, ◌⊎◌}
 use Rattle.std.proofs.lemmas.Bool.{false≢true, or_cases, or_left, or_right, eqb-true, eq-eqb}
 use Rattle.std.specs.List.{list_any}
 use Rattle.wb_base.specs.Paths.{Leads, LeadsThrough, leads_through}
@@ -97,3 +97,21 @@ module _ (edge : ℕ → ℕ → Bool) where
   pub leads_through-decides_all : (ks : List ℕ) → ((k b : ℕ) → edge k b ≡ true → list_any (eqb k) ks ≡ true)
       → (a b : ℕ) → (leads_through edge ks a b ≡ true) ↔ Leads edge a b
   leads_through-decides_all ks all a b = (λ h. anywhere ks a b (path_from_test ks a b h), λ p. test_from_path ks a b (within ks all a b p))
+
+  -- ---- paths of any length
+
+  -- two paths join
+  pub leads-joined : (a k b : ℕ) → Leads edge a k → Leads edge k b → Leads edge a b
+  leads-joined a k b p (one_step h) = and_step p h
+  leads-joined a k b p (and_step {k = j} q h) = and_step (leads-joined a k j p q) h
+
+  -- an edge, and a path from its end
+  pub leads-over : (a k b : ℕ) → edge a k ≡ true → Leads edge k b → Leads edge a b
+  leads-over a k b h p = leads-joined a k b (one_step h) p
+
+  -- a path begins with an edge, which ends where the path does or where a path goes on
+  pub leads-first : (a b : ℕ) → Leads edge a b → (k : ℕ) × (edge a k ≡ true) × ((k ≡ b) ⊎ Leads edge k b)
+  leads-first a b (one_step h) = (b, h, inl refl)
+  leads-first a b (and_step {k = j} p h) =
+      let first = leads-first a j p in
+      (first.0, first.1, inr (⊎_elim (λ e. one_step (subst (λ x. edge x b ≡ true) (sym e) h)) (λ q. and_step q h) first.2))

@@ -22,7 +22,7 @@ pub fn listed(alloc: Global, value: &Value, names: &[&str]) -> Result<(), Wrong>
 }
 
 /// The names that an object's members may have.
-pub(crate) trait Names {
+pub(crate) trait MemberNames {
     ghost passes: { Self → List ℕ → Bool };
 
     fn passes(&self, name: &str) -> bool
@@ -33,7 +33,7 @@ pub(crate) trait Names {
 #[derive(Drop)]
 struct OneOf<'a>(&'a [&'a str]);
 
-impl Names for OneOf<'_> {
+impl MemberNames for OneOf<'_> {
     ghost passes = { λ names. is_one_of (map (λ name. name.now) names.0.now) };
 
     fn passes(&self, name: &str) -> bool {
@@ -45,7 +45,7 @@ impl Names for OneOf<'_> {
 #[derive(Drop)]
 pub(crate) struct Free;
 
-impl Names for Free {
+impl MemberNames for Free {
     ghost passes = { λ _ name. is_name name };
 
     fn passes(&self, name: &str) -> bool {
@@ -54,7 +54,7 @@ impl Names for Free {
 }
 
 /// No member has another name than these; the first that has is wrong.
-pub(crate) fn only<N: Names>(
+pub(crate) fn only<N: MemberNames>(
     alloc: Global,
     members: &Map<String, Value>,
     names: &N,
