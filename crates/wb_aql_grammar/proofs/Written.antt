@@ -1,5 +1,5 @@
 -- The expressions of a variable and of a feature of `self`, by the texts that spell them.
-use Rattle.std.proofs.Common.{◌≡◌, ℕ, List, [], ◌∷◌, ◌++◌, refl, sym, ap, subst, true}
+use Rattle.std.proofs.Common.{◌≡◌, ℕ, List, [], ◌∷◌, ◌++◌, refl, ap, subst, true}
 use Rattle.std.specs.Prelude.{codes}
 use Rattle.wb_aql_tokens.specs.Lexes.{Lexes, lexes_end, is_expression_name, is_reserved, reserved, word_of}
 use Rattle.wb_aql_tokens.specs.Apart.{ends_before}

@@ -6,7 +6,8 @@ use Rattle.std.specs.Char.{is_ascii_digit}
 use Rattle.std.specs.Str.{byte}
 use Rattle.std.proofs.lemmas.Bool.{and_parts, not_from_true}
 use Rattle.std.proofs.lemmas.List.{append_cancel_left, length-append}
-use Rattle.wb_aql_tokens.specs.Lexes.{word_of, is_name_byte, is_within, Quotes, Spelling, IsNext, Lexes, lexes_blank, lexes_token}
+use Rattle.wb_aql_tokens.specs.Lexes.{word_of, is_within, Quotes, Spelling, IsNext, Lexes, lexes_blank, lexes_token}
+use Rattle.wb_base.specs.Names.{is_name_byte}
 use Rattle.wb_aql_tokens.specs.Lexer.{first_start}
 use Rattle.wb_aql_tokens.specs.Apart.{lengthens_sign, lengthens, ends_before}
 use Rattle.wb_aql_tokens.specs.declared.characters.Start.TheVariants as b

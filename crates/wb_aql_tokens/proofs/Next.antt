@@ -8,7 +8,8 @@ use Rattle.std.proofs.lemmas.Bool.Decides.{nat_tests}
 use Rattle.std.proofs.lemmas.Bool.{and_from, cases_lt, leb-true, le-leb, not_from_false}
 use Rattle.std.proofs.lemmas.List.{length-append, length-take, nil_from_length}
 use Rattle.std.proofs.lemmas.List.Sums.{prefix_len-le-length}
-use Rattle.wb_aql_tokens.specs.Lexes.{word_of, is_name_byte, is_expression_name, is_reserved, starts_name, Spelling, IsNext, NoToken, is_within, largest_integer}
+use Rattle.wb_aql_tokens.specs.Lexes.{word_of, is_expression_name, is_reserved, Spelling, IsNext, NoToken, is_within, largest_integer}
+use Rattle.wb_base.specs.Names.{is_name, is_name_byte, starts_name}
 use Rattle.wb_aql_tokens.specs.Lexer.{first_start, BeginsWith, BeginsWithSign, NoSignOf}
 use Rattle.wb_aql_tokens.specs.declared.characters.Start.TheVariants as b
 use Rattle.wb_aql_tokens.specs.declared.token.Token.{Token}
@@ -67,7 +68,7 @@ first_of_name (c ∷ text) n is e =
     subst (λ xs. starts_name xs ≡ true) (sym (take_first n c text (omega arith))) s
 
 pub is_a_name : (text : List ℕ) (n : ℕ) → n ≡ min (prefix_len is_name_byte text) 64 → first_start text ≡ Some b.Word → is_reserved (take n text) ≡ false → is_expression_name (take n text) ≡ true
-unfolding is_expression_name
+unfolding is_expression_name is_name
 is_a_name text n is e free =
     let short : length (take n text) ≤ 64 = omega (arith, length-take n text) in
     let le : n ≤ prefix_len is_name_byte text = omega arith in

@@ -6,7 +6,8 @@ use Rattle.std.specs.Str.{byte}
 use Rattle.std.proofs.lemmas.Bool.{and_from}
 use Rattle.std.proofs.lemmas.Bool.Decides.{nat_tests}
 use Rattle.std.proofs.lemmas.List.{append_cancel_left}
-use Rattle.wb_aql_tokens.specs.Lexes.{word_of, is_expression_name, is_name_start, is_blank, is_within, starts_name, Quotes, Spelling, IsNext, NoToken, Lexes, lexes_end, lexes_blank, lexes_token, lexes_bad}
+use Rattle.wb_aql_tokens.specs.Lexes.{word_of, is_expression_name, is_blank, is_within, Quotes, Spelling, IsNext, NoToken, Lexes, lexes_end, lexes_blank, lexes_token, lexes_bad}
+use Rattle.wb_base.specs.Names.{is_name_start, starts_name}
 use Rattle.wb_aql_tokens.specs.declared.characters.Start.TheVariants as b
 use Rattle.wb_aql_tokens.specs.declared.token.Token.{Token}
 use Rattle.wb_aql_tokens.specs.declared.token.Token.TheVariants.{Sign, Name, Integer, Quoted, Bad}

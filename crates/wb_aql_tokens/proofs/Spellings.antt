@@ -7,7 +7,8 @@ use Rattle.std.specs.Str.{byte}
 use Rattle.std.specs.Str.Parse.{IsNumeral, AllDigits, digits_value}
 use Rattle.std.proofs.lemmas.Bool.{and_parts, and_from, leb-true}
 use Rattle.std.proofs.lemmas.Bool.Decides.{nat_tests}
-use Rattle.wb_aql_tokens.specs.Lexes.{word_of, is_name_start, is_name_byte, is_expression_name, is_reserved, starts_name, is_quotable, Quotes, Spelling, NoToken}
+use Rattle.wb_aql_tokens.specs.Lexes.{word_of, is_expression_name, is_reserved, is_quotable, Quotes, Spelling, NoToken}
+use Rattle.wb_base.specs.Names.{is_name, is_name_start, is_name_byte, starts_name}
 use Rattle.wb_aql_tokens.specs.Lexer.{start_of, first_start}
 use Rattle.wb_aql_tokens.specs.declared.characters.Start.{Start}
 use Rattle.wb_aql_tokens.specs.declared.characters.Start.TheVariants as b
@@ -103,7 +104,7 @@ not_true true e = cc
 not_true false e = refl
 
 pub name_parts : (name : List ℕ) → is_expression_name name ≡ true → IsName name
-unfolding is_expression_name
+unfolding is_expression_name is_name
 name_parts name h =
     let a = and_parts _ _ h in
     let c = and_parts _ _ a.0 in

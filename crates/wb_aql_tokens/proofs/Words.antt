@@ -5,7 +5,8 @@ use Rattle.std.specs.List.{list_all}
 use Rattle.std.specs.Str.{byte}
 use Rattle.std.proofs.lemmas.Bool.{false_from_ne_true}
 use Rattle.std.proofs.lemmas.Slice.Eq.{bytes_eq-Decides}
-use Rattle.wb_aql_tokens.specs.Lexes.{word_of, is_reserved, reserved, is_name_byte}
+use Rattle.wb_aql_tokens.specs.Lexes.{word_of, is_reserved, reserved}
+use Rattle.wb_base.specs.Names.{is_name_byte}
 use Rattle.wb_aql_tokens.specs.Lexer.{first_start}
 use Rattle.wb_aql_tokens.specs.declared.characters.Start.TheVariants as b
 use Rattle.wb_aql_tokens.specs.declared.token.Sign.{Sign as SignName}

@@ -2,9 +2,9 @@
 use Rattle.std.specs.Prelude.{ℕ, not, ◌==◌, ◌||◌, Bool, true, false, List, [], ◌∷◌}
 use Rattle.std.specs.Char.{is_ascii_digit}
 use Rattle.std.specs.Str.{byte}
-use Rattle.wb_aql_tokens.specs.Lexes.{is_name_byte}
+use Rattle.wb_base.specs.Names.{is_name_byte}
 use Rattle.wb_aql_tokens.specs.declared.token.Token.{Token}
-use Rattle.wb_aql_tokens.specs.declared.token.Token.TheVariants.{Sign, Name, Integer}
+use Rattle.wb_aql_tokens.specs.declared.token.Token.TheVariants.{Sign, Name, Integer, Quoted, Bad}
 use Rattle.wb_aql_tokens.specs.declared.token.Sign.{Sign as SignName}
 use Rattle.wb_aql_tokens.specs.declared.token.Sign.TheVariants as s
 
@@ -28,14 +28,31 @@ lengthens_sign s.Open c = false
 lengthens_sign s.Close c = false
 lengthens_sign s.OpenBrace c = false
 lengthens_sign s.CloseBrace c = false
-lengthens_sign word c = is_name_byte c
+lengthens_sign s.If c = is_name_byte c
+lengthens_sign s.Then c = is_name_byte c
+lengthens_sign s.Else c = is_name_byte c
+lengthens_sign s.Endif c = is_name_byte c
+lengthens_sign s.Let c = is_name_byte c
+lengthens_sign s.In c = is_name_byte c
+lengthens_sign s.And c = is_name_byte c
+lengthens_sign s.Or c = is_name_byte c
+lengthens_sign s.Xor c = is_name_byte c
+lengthens_sign s.Implies c = is_name_byte c
+lengthens_sign s.Not c = is_name_byte c
+lengthens_sign s.Div c = is_name_byte c
+lengthens_sign s.Null c = is_name_byte c
+lengthens_sign s.True c = is_name_byte c
+lengthens_sign s.False c = is_name_byte c
+lengthens_sign s.Sequence c = is_name_byte c
+lengthens_sign s.OrderedSet c = is_name_byte c
 
 -- would the byte make a longer token of the one before it?
 abbrev pub lengthens : Token → ℕ → Bool
 lengthens (Sign sign) c = lengthens_sign sign c
 lengthens (Name name) c = is_name_byte c
 lengthens (Integer n) c = is_ascii_digit c
-lengthens _ c = false
+lengthens (Quoted value) c = false
+lengthens Bad c = false
 
 -- may these bytes follow the token?
 abbrev pub ends_before : Token → List ℕ → Bool

@@ -2,7 +2,8 @@
 use Rattle.std.specs.Prelude.{◌≡◌, ℕ, true, List, [], ◌∷◌, ◌++◌, ◌==◌, length, Option, Some, None, if◌then◌else◌}
 use Rattle.std.specs.Char.{is_ascii_digit}
 use Rattle.std.specs.Str.{byte}
-use Rattle.wb_aql_tokens.specs.Lexes.{IsNext, Means, escape_of, word_of, is_name_start}
+use Rattle.wb_aql_tokens.specs.Lexes.{IsNext, Means, escape_of, word_of}
+use Rattle.wb_base.specs.Names.{is_name_start}
 use Rattle.wb_aql_tokens.specs.declared.characters.Start.{Start}
 use Rattle.wb_aql_tokens.specs.declared.characters.Start.TheVariants as b
 use Rattle.wb_aql_tokens.specs.declared.token.Token.{Token}

@@ -1,9 +1,9 @@
 -- The tokens of a text: the bytes that spell each token, and how a text falls into tokens.
 use Rattle.std.specs.Prelude.{◌≡◌, ℕ, suc, ◌+◌, ◌&&◌, ◌||◌, ◌==◌, nat_eq, nat_le, not, Bool, true, false, List, [], ◌∷◌, ◌++◌, length, find, Option, Some, option_map, codes, bytes_eq}
-use Rattle.std.specs.Char.{is_ascii_alphabetic, is_ascii_alphanumeric}
 use Rattle.std.specs.List.{list_all, list_any}
 use Rattle.std.specs.Str.{byte, is_utf8}
 use Rattle.std.specs.Str.Parse.{IsNumeral, digits_value}
+use Rattle.wb_base.specs.Names.{is_name}
 use Rattle.wb_aql_tokens.specs.declared.token.Token.{Token}
 use Rattle.wb_aql_tokens.specs.declared.token.Token.TheVariants.{Sign, Name, Integer, Quoted, Bad}
 use Rattle.wb_aql_tokens.specs.declared.token.Sign.{Sign as SignName}
@@ -58,19 +58,9 @@ is_reserved bytes = list_any (λ sign. bytes_eq (word_of sign) bytes) reserved
 
 -- ---- names
 
-abbrev pub is_name_start : ℕ → Bool
-is_name_start c = is_ascii_alphabetic c || (c == byte "_")
-
-abbrev pub is_name_byte : ℕ → Bool
-is_name_byte c = is_ascii_alphanumeric c || (c == byte "_")
-
-abbrev pub starts_name : List ℕ → Bool
-starts_name [] = false
-starts_name (c ∷ cs) = is_name_start c
-
--- a name: a letter or `_`, then letters, digits and `_`, at most 64 bytes, and no reserved word
+-- a name that an expression can write: no reserved word
 unfoldable pub is_expression_name : List ℕ → Bool
-is_expression_name bytes = nat_le (length bytes) 64 && starts_name bytes && list_all is_name_byte bytes && not (is_reserved bytes)
+is_expression_name bytes = is_name bytes && not (is_reserved bytes)
 
 -- ---- integers
 
@@ -122,7 +112,8 @@ abbrev pub is_within : Token → Bool
 is_within (Name name) = is_expression_name name
 is_within (Integer n) = nat_le n largest_integer
 is_within (Quoted value) = is_quotable value
-is_within _ = true
+is_within (Sign sign) = true
+is_within Bad = true
 
 -- The token that begins the text `front ++ rest`: the front spells it, and no longer front of the text spells any.
 -- So an integer is a whole run of digits, and a run above the largest integer begins no token.

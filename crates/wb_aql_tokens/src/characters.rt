@@ -1,7 +1,8 @@
 ghost use Rattle.std.specs.Prelude.{◌≡◌, ◌≤◌, [], ◌∷◌, length, min, take, drop, MatchOption};
 ghost use Rattle.std.specs.List.{prefix_len};
 ghost use Rattle.std.specs.Char.{is_ascii_digit};
-ghost use Rattle.wb_aql_tokens.specs.Lexes.{is_name_start, is_name_byte, is_blank};
+ghost use Rattle.wb_aql_tokens.specs.Lexes.{is_blank};
+ghost use Rattle.wb_base.specs.Names.{is_name_start, is_name_byte};
 ghost use Rattle.wb_aql_tokens.specs.Lexer.{start_of};
 
 /// The first byte, and what follows it.

@@ -1,6 +1,6 @@
 use Rattle.std.proofs.Common.{arith}
 use Rattle.std.proofs.lemmas.List.Sums.{prefix_len-le-length}
-use Rattle.wb_aql_tokens.specs.Lexes.{is_name_byte}
+use Rattle.wb_base.specs.Names.{is_name_byte}
 use Rattle.wb_aql_tokens.proofs.Runs.{run_of_front}
 use Rattle.wb_aql_tokens.proofs.characters.name_len.Goals as goal
 

@@ -1,6 +1,6 @@
 use Rattle.std.proofs.Common.{◌≡◌, ◌≤◌, true, sym, subst, take, arith, IsUtf8}
 use Rattle.std.specs.List.{list_all, prefix_len}
-use Rattle.wb_aql_tokens.specs.Lexes.{is_name_byte}
+use Rattle.wb_base.specs.Names.{is_name_byte}
 use Rattle.wb_aql_tokens.proofs.Runs.{ascii_text, run_passes, part_of_run}
 use Rattle.wb_aql_tokens.proofs.Spellings.{low_name_byte}
 use Rattle.wb_aql_tokens.proofs.characters.name_run.Goals as goal
