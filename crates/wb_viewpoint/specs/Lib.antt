@@ -1,4 +1,5 @@
 pub mod Codes
+pub mod Forms
 pub mod Limits
 pub mod OperationTrees
 pub mod Refusals

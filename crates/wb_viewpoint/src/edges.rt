@@ -1,7 +1,42 @@
+ghost use Rattle.serde_json.specs.View.{view};
+ghost use Rattle.wb_json.specs.Form.{Gives};
+ghost use Rattle.wb_viewpoint.specs.Forms.{ends_of, edge_of, object_edge_of};
+
 use crate::expression_texts::ExpressionText;
-use crate::objects::Objects;
+use crate::mappings::{Mapping, MappingForm};
+use crate::objects::{Objects, read_objects};
+use crate::shown::read_shown;
+use crate::styles::read_looks;
+use std::alloc::Global;
 use wb_base::List;
-use wb_json::Name;
+use wb_json::{Name, Value, Wrong, listed, needed};
+
+const EDGE_MEMBERS: &[&str] = &[
+    "name",
+    "kind",
+    "precondition",
+    "layer",
+    "sources",
+    "targets",
+    "targetFinder",
+    "style",
+    "styles",
+];
+
+const OBJECT_EDGE_MEMBERS: &[&str] = &[
+    "name",
+    "kind",
+    "domain",
+    "candidates",
+    "precondition",
+    "layer",
+    "sources",
+    "targets",
+    "sourceFinder",
+    "targetFinder",
+    "style",
+    "styles",
+];
 
 /// The names of the mappings of an edge's two ends.
 #[derive(Drop)]
@@ -41,4 +76,53 @@ impl Drop for EdgeMapping {
             target_finder: _target_finder,
         } = self;
     }
+}
+
+fn read_ends(alloc: Global, value: &Value) -> Result<Ends, Wrong>
+    ensures { Gives result (ends_of (view value.now)) }
+{
+    let sources = needed(alloc, value, "sources")?;
+    let targets = needed(alloc, value, "targets")?;
+    Ok(Ends { sources, targets })
+}
+
+#[tactic(auto, unfolding(crate::specs::Forms::edge_of))]
+pub(crate) fn read_edge(alloc: Global, value: &Value) -> Result<Mapping, Wrong>
+    ensures { Gives result (edge_of (view value.now)) }
+{
+    listed(alloc, value, EDGE_MEMBERS)?;
+    let name = needed(alloc, value, "name")?;
+    let shown = read_shown(alloc, value)?;
+    let ends = read_ends(alloc, value)?;
+    let target_finder = needed(alloc, value, "targetFinder")?;
+    let looks = read_looks(alloc, value)?;
+    let form = MappingForm::Edge(EdgeMapping {
+        object_edge: None,
+        ends,
+        target_finder,
+    });
+    Ok(shown.mapping(name, form, looks))
+}
+
+#[tactic(auto, unfolding(crate::specs::Forms::object_edge_of))]
+pub(crate) fn read_object_edge(alloc: Global, value: &Value) -> Result<Mapping, Wrong>
+    ensures { Gives result (object_edge_of (view value.now)) }
+{
+    listed(alloc, value, OBJECT_EDGE_MEMBERS)?;
+    let name = needed(alloc, value, "name")?;
+    let objects = read_objects(alloc, value)?;
+    let shown = read_shown(alloc, value)?;
+    let ends = read_ends(alloc, value)?;
+    let source_finder = needed(alloc, value, "sourceFinder")?;
+    let target_finder = needed(alloc, value, "targetFinder")?;
+    let looks = read_looks(alloc, value)?;
+    let form = MappingForm::Edge(EdgeMapping {
+        object_edge: Some(ObjectEdge {
+            objects,
+            source_finder,
+        }),
+        ends,
+        target_finder,
+    });
+    Ok(shown.mapping(name, form, looks))
 }

@@ -1,7 +1,9 @@
 ghost use Rattle.std.specs.Prelude.{◌≡◌, ◌≤◌, length};
 
+use std::alloc::Global;
 use std::marker::Model;
 use wb_base::Text;
+use wb_json::{Form, Value, Wrong};
 
 /// An expression as a viewpoint's text has it: any text of at most 4,096 bytes, with its prefix.
 #[derive(Drop)]
@@ -32,5 +34,21 @@ impl ExpressionText {
         ensures few { length result.now ≤ 4096 }
     {
         self.text.as_str()
+    }
+}
+
+impl Form for ExpressionText {
+    ghost use Rattle.wb_viewpoint.specs.Forms.{expression_of};
+
+    ghost form = { expression_of };
+
+    #[tactic(auto, unfolding(crate::specs::Forms::expression_of))]
+    fn read(alloc: Global, value: &Value) -> Result<ExpressionText, Wrong> {
+        match value.as_str() {
+            Some(text) if text.len() <= 4096 => {
+                Ok(ExpressionText::new(Text::from_str(alloc, text)?))
+            }
+            _ => Err(Wrong::here(alloc)),
+        }
     }
 }

@@ -1,8 +1,10 @@
-use crate::edges::EdgeMapping;
+use crate::edges::{EdgeMapping, read_edge, read_object_edge};
 use crate::expression_texts::ExpressionText;
-use crate::nodes::NodeMapping;
+use crate::mapping_kinds::MappingKind;
+use crate::nodes::{NodeMapping, read_node};
 use crate::styles::Looks;
-use wb_json::Name;
+use std::alloc::Global;
+use wb_json::{Form, Name, Value, Wrong, needed};
 
 /// How objects become elements of a diagram.
 pub struct Mapping {
@@ -39,6 +41,21 @@ impl Drop for MappingForm {
         match self {
             MappingForm::Node(_mapping) => {}
             MappingForm::Edge(_mapping) => {}
+        }
+    }
+}
+
+impl Form for Mapping {
+    ghost use Rattle.wb_viewpoint.specs.Forms.{mapping_of};
+
+    ghost form = { mapping_of };
+
+    #[tactic(auto, unfolding(crate::specs::Forms::mapping_of))]
+    fn read(alloc: Global, value: &Value) -> Result<Mapping, Wrong> {
+        match needed(alloc, value, "kind")? {
+            MappingKind::Node(kind) => read_node(alloc, value, kind),
+            MappingKind::Edge => read_edge(alloc, value),
+            MappingKind::ObjectEdge => read_object_edge(alloc, value),
         }
     }
 }

@@ -1,5 +1,10 @@
+ghost use Rattle.serde_json.specs.View.{view};
+ghost use Rattle.wb_json.specs.Form.{Gives};
+ghost use Rattle.wb_viewpoint.specs.Forms.{objects_of};
+
 use crate::expression_texts::ExpressionText;
-use wb_json::Name;
+use std::alloc::Global;
+use wb_json::{Name, Value, Wrong, needed, optional};
 
 /// The objects that a mapping shows: those of its domain class among its candidates.
 /// Without an expression all objects of the class are candidates.
@@ -7,4 +12,12 @@ use wb_json::Name;
 pub struct Objects {
     pub domain: Name,
     pub candidates: Option<ExpressionText>,
+}
+
+pub(crate) fn read_objects(alloc: Global, value: &Value) -> Result<Objects, Wrong>
+    ensures { Gives result (objects_of (view value.now)) }
+{
+    let domain = needed(alloc, value, "domain")?;
+    let candidates = optional(alloc, value, "candidates")?;
+    Ok(Objects { domain, candidates })
 }

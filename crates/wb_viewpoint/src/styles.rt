@@ -1,6 +1,11 @@
+ghost use Rattle.serde_json.specs.View.{view};
+ghost use Rattle.wb_json.specs.Form.{Gives};
+ghost use Rattle.wb_viewpoint.specs.Forms.{looks_of};
+
 use crate::expression_texts::ExpressionText;
+use std::alloc::Global;
 use wb_base::List;
-use wb_json::Name;
+use wb_json::{Form, Name, Value, Wrong, list_or_empty, listed, needed, optional};
 
 /// How an element looks.
 pub struct Style {
@@ -47,4 +52,45 @@ impl Drop for Looks {
             styles: _styles,
         } = self;
     }
+}
+
+impl Form for Style {
+    ghost use Rattle.wb_viewpoint.specs.Forms.{style_of};
+
+    ghost form = { style_of };
+
+    #[tactic(auto, unfolding(crate::specs::Forms::style_of))]
+    fn read(alloc: Global, value: &Value) -> Result<Style, Wrong> {
+        listed(alloc, value, &["shape", "color", "label"])?;
+        let shape = needed(alloc, value, "shape")?;
+        let color = needed(alloc, value, "color")?;
+        let label = optional(alloc, value, "label")?;
+        Ok(Style {
+            shape,
+            color,
+            label,
+        })
+    }
+}
+
+impl Form for ConditionalStyle {
+    ghost use Rattle.wb_viewpoint.specs.Forms.{conditional_style_of};
+
+    ghost form = { conditional_style_of };
+
+    #[tactic(auto, unfolding(crate::specs::Forms::conditional_style_of))]
+    fn read(alloc: Global, value: &Value) -> Result<ConditionalStyle, Wrong> {
+        listed(alloc, value, &["when", "style"])?;
+        let when = needed(alloc, value, "when")?;
+        let style = needed(alloc, value, "style")?;
+        Ok(ConditionalStyle { when, style })
+    }
+}
+
+pub(crate) fn read_looks(alloc: Global, value: &Value) -> Result<Looks, Wrong>
+    ensures { Gives result (looks_of (view value.now)) }
+{
+    let style = needed(alloc, value, "style")?;
+    let styles = list_or_empty(alloc, value, "styles")?;
+    Ok(Looks { style, styles })
 }
