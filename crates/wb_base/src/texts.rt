@@ -54,6 +54,13 @@ impl Text {
         Text { text }
     }
 
+    /// The bytes of the text, in its own memory.
+    pub fn into_bytes(self) -> Vec<u8>
+        ensures { result.items ≡ self }
+    {
+        self.text.into_bytes()
+    }
+
     pub fn as_slice(&self) -> &[u8]
         ensures same { result.now ≡ self.now }
         ensures utf8 { IsUtf8 result.now }
