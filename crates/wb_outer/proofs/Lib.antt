@@ -1,3 +1,4 @@
+pub mod Connections
 pub mod KeptRows
 pub mod Pieces
-pub mod Writes
+pub mod Puts

@@ -11,6 +11,10 @@ Rose before now = min (before + 1) (2 ^ 64 - 1) ≤ now
 abbrev pub raised : ℕ → ℕ
 raised count = min (count + 1) (2 ^ 64 - 1)
 
+-- the count after a call that failed or not
+abbrev pub counted : Bool → ℕ → ℕ
+counted has_failed count = if has_failed then raised count else count
+
 -- no call was made yet, and these will fail, counted from 0
 abbrev pub plan_of : List ℕ → FaultPlan
 plan_of failing = record { failing = failing; calls = 0; faults = 0 }
@@ -21,4 +25,4 @@ fails_now plan = list_any (λ call. call == plan.calls) plan.failing
 
 -- a call was made, and failed or not
 abbrev pub after_call : Bool → FaultPlan → FaultPlan
-after_call has_failed plan = record { failing = plan.failing; calls = raised plan.calls; faults = if has_failed then raised plan.faults else plan.faults }
+after_call has_failed plan = record { failing = plan.failing; calls = raised plan.calls; faults = counted has_failed plan.faults }

@@ -1,8 +1,9 @@
 -- Kept rows, and what changes do to them.
-use Rattle.std.specs.Prelude.{◌≡◌, ℕ, Bool, false, ⊤, List, [], ◌∷◌, Option, nat_eq, filter, not, if◌then◌else◌}
+use Rattle.std.specs.Prelude.{◌≡◌, ℕ, Bool, false, ⊤, List, [], ◌∷◌, Option, Some, IfSome, ◌≤◌, nat_eq, filter, not, if◌then◌else◌}
 use Rattle.std.specs.Ordering.{nat_cmp, is_lt}
 use Rattle.std.specs.Option.{option_map}
 use Rattle.std.specs.Cmp.Lexicographic.{pointwise, slice_cmp}
+use Rattle.wb_outer.specs.Faults.{Rose}
 use Rattle.wb_outer.specs.declared.keeper.Row.{Row}
 use Rattle.wb_outer.specs.declared.keeper.RowChange.{RowChange}
 use Rattle.wb_outer.specs.declared.keeper.RowChange.TheVariants.{Put, Erase}
@@ -46,19 +47,37 @@ abbrev pub changed : List RowChange → List Row → List Row
 changed [] rows = rows
 changed (change ∷ changes) rows = changed changes (changed_by change rows)
 
--- the rows are given
-abbrev pub Gives : Loaded → List Row → Type 0
-Gives (Rows given) rows = given ≡ rows
-Gives LoadFailed rows = Unit {0}
+-- what a keeper tells: the rows, where it tells them, and its count of faults
+pub record KeeperTold : Type 0 where
+  pub rows : Option (List Row)
+  pub faults : ℕ
+
+-- the call failed, or gave these rows
+abbrev pub AreLoaded : Loaded → List Row → Type 0
+AreLoaded (Rows given) rows = given ≡ rows
+AreLoaded LoadFailed rows = Unit {0}
+
+-- a call for the rows was answered: they are given ascending, and stay
+pub record Loads (old new : KeeperTold) (loaded : Loaded) : Type 0 where
+  pub rows_stay : new.rows ≡ old.rows
+  pub as_kept : IfSome old.rows (λ rows. AreLoaded loaded rows)
+  pub ascending : IfSome old.rows IsAscending
+  pub later : old.faults ≤ new.faults
+  pub failed : loaded ≡ LoadFailed → Rose old.faults new.faults
 
 -- all changes are made at once, or none
-abbrev pub Commits : Option (List Row) → Option (List Row) → List RowChange → Committed → Type 0
-Commits old new changes Done = new ≡ option_map (changed changes) old
-Commits old new changes CommitFailed = new ≡ old
-Commits old new changes NoMemory = new ≡ old
+abbrev pub MadeAtOnce : Option (List Row) → Option (List Row) → List RowChange → Committed → Type 0
+MadeAtOnce old new changes Done = new ≡ option_map (changed changes) old
+MadeAtOnce old new changes CommitFailed = new ≡ old
+MadeAtOnce old new changes NoMemory = new ≡ old
 
--- the same for a keeper whose calls do not fail
-abbrev pub SureCommits : List Row → List Row → List RowChange → Committed → Type 0
-SureCommits old new changes Done = new ≡ changed changes old
-SureCommits old new changes CommitFailed = ⊥
-SureCommits old new changes NoMemory = new ≡ old
+-- a commit was answered
+pub record Commits (old new : KeeperTold) (changes : List RowChange) (committed : Committed) : Type 0 where
+  pub rows : MadeAtOnce old.rows new.rows changes committed
+  pub later : old.faults ≤ new.faults
+  pub failed : committed ≡ CommitFailed → Rose old.faults new.faults
+  pub memory : committed ≡ NoMemory → new.faults ≡ old.faults
+
+-- a keeper in memory whose calls do not fail
+abbrev pub sure_told : List Row → KeeperTold
+sure_told rows = record { rows = Some rows; faults = 0 }

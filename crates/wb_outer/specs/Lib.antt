@@ -1,6 +1,11 @@
+pub mod Logs
 pub mod Ticks
 pub mod Faults
 pub mod Shelf
+pub mod Files
 pub mod Sink
+pub mod Output
 pub mod Door
+pub mod Visits
+pub mod Pieces
 pub mod Keeper

@@ -1,27 +1,40 @@
--- What stands in a sink, or was written on a connection.
-use Rattle.std.specs.Prelude.{◌≡◌, ℕ, Bool, true, false, ⊤, List, [], take, Option}
-use Rattle.std.specs.Io.KnownBytes.{append_known, Appends}
-use Rattle.wb_outer.specs.Faults.{fails_now}
+-- Sinks: what one was handed and took.
+use Rattle.std.specs.Prelude.{◌≡◌, ℕ, ◌≤◌, Bool, true, false, ⊤, List, [], ◌∷◌, ◌++◌, take}
+use Rattle.wb_outer.specs.Faults.{Rose, fails_now, after_call}
 use Rattle.wb_outer.specs.declared.faults.FaultPlan.{FaultPlan}
 use Rattle.wb_outer.specs.declared.sink.Wrote.{Wrote}
 use Rattle.wb_outer.specs.declared.sink.Wrote.TheVariants.{Done, Failed}
 
--- a front of the piece was appended to what is told
-abbrev pub AppendsFront : Option (List ℕ) → Option (List ℕ) → List ℕ → Type 0
-AppendsFront old new piece = (n : ℕ) × (new ≡ append_known old (take n piece))
-
--- the same for a writer, of which nothing is claimed where nothing was known
-abbrev pub AppendsKnownFront : Option (List ℕ) → Option (List ℕ) → List ℕ → Type 0
-AppendsKnownFront old new piece = (n : ℕ) × Appends old new (take n piece)
-
--- a sink in memory: what was written, and which calls fail
-pub record MemorySinkState : Type 0 where
-  pub bytes : List ℕ
-  pub plan : FaultPlan
+-- what a sink tells: each piece that it was handed, in order; all that it took; and its count of faults
+pub record SinkTold : Type 0 where
+  pub handed : List (List ℕ)
+  pub took : List ℕ
+  pub faults : ℕ
 
 abbrev pub has_failed : Wrote → Bool
 has_failed Done = false
 has_failed Failed = true
+
+-- the whole piece was appended, or a front of it where the call failed
+abbrev pub Appended : List ℕ → List ℕ → List ℕ → Wrote → Type 0
+Appended old new piece Done = new ≡ old ++ piece
+Appended old new piece Failed = (n : ℕ) × (new ≡ old ++ take n piece)
+
+-- a piece was handed to a sink
+pub record Receives (old new : SinkTold) (piece : List ℕ) (wrote : Wrote) : Type 0 where
+  pub handed : new.handed ≡ old.handed ++ piece ∷ []
+  pub took : Appended old.took new.took piece wrote
+  pub later : old.faults ≤ new.faults
+  pub failed : wrote ≡ Failed → Rose old.faults new.faults
+
+-- a sink in memory: the pieces that it was handed, what it took, and which calls fail
+pub record MemorySinkState : Type 0 where
+  pub handed : List (List ℕ)
+  pub bytes : List ℕ
+  pub plan : FaultPlan
+
+abbrev pub memory_told : MemorySinkState → SinkTold
+memory_told sink = record { handed = sink.handed; took = sink.bytes; faults = sink.plan.faults }
 
 -- a write appends the whole piece, and none of it where it fails
 abbrev pub appended : Wrote → List ℕ → List ℕ
@@ -32,3 +45,15 @@ appended Failed piece = []
 abbrev pub IsPlanned : FaultPlan → Wrote → Type 0
 IsPlanned plan Done = fails_now plan ≡ false
 IsPlanned plan Failed = ⊤
+
+-- the sink after a call that answered so
+abbrev pub after_write : Wrote → List ℕ → MemorySinkState → MemorySinkState
+after_write wrote piece sink = record { handed = sink.handed ++ piece ∷ []; bytes = sink.bytes ++ appended wrote piece; plan = after_call (has_failed wrote) sink.plan }
+
+-- a sink that never fails: the pieces that it was handed, and their bytes
+pub record SureSinkState : Type 0 where
+  pub handed : List (List ℕ)
+  pub took : List ℕ
+
+abbrev pub sure_told : SureSinkState → SinkTold
+sure_told sink = record { handed = sink.handed; took = sink.took; faults = 0 }

@@ -1,6 +1,5 @@
-ghost use Rattle.std.specs.Prelude.{◌≡◌, ℕ, ◌<◌, ◌≤◌, Option, None, Some, length, IfSome};
-ghost use Rattle.wb_outer.specs.Faults.{Rose};
-ghost use Rattle.wb_outer.specs.Door.{Connections, Comes, Reads, Writes, FitsRoom};
+ghost use Rattle.std.specs.Prelude.{◌≡◌, ◌<◌, Some, length};
+ghost use Rattle.wb_outer.specs.Door.{DoorTold, Comes, Reads, Writes};
 ghost use Rattle.wb_outer.specs.declared.door.Next.{Next};
 
 use crate::sink::Wrote;
@@ -26,38 +25,22 @@ pub enum Got {
 }
 
 /// Connections, one after another. One is at hand while the last call for the next one answered `Line`.
+/// A door tells what was read and written on each.
 pub trait Door {
-    // the connections, where the door tells them
-    ghost connections: { Self → Option Connections } = { λ _. None };
-
-    // what the last call for the next connection answered, or that none was made
-    ghost last: { Self → Option Next };
-
-    // the count of faults
-    ghost faults: { Self → ℕ };
+    ghost told: { Self → DoorTold };
 
     /// Closes the connection at hand and takes the next.
     fn next(&mut self) -> Next
-        ensures told { IfSome (connections self.old) (λ old. Comes old (connections self.new) result) }
-        ensures last { last self.new ≡ Some result }
-        ensures later { faults self.old ≤ faults self.new }
-        ensures failed { result ≡ Next.Failed → Rose (faults self.old) (faults self.new) };
+        ensures { Comes (told self.old) (told self.new) result };
 
     /// The next bytes of the connection at hand, into the front of the room.
     fn read(&mut self, room: &mut [u8]) -> Got
-        requires at_hand { last self.old ≡ Some Next.Line }
+        requires at_hand { (told self.old).last ≡ Some Next.Line }
         requires has_room { 0 < length room.old }
-        ensures fits { FitsRoom result room.new }
-        ensures told { IfSome (connections self.old) (λ old. Reads old (connections self.new) room.new result) }
-        ensures last { last self.new ≡ last self.old }
-        ensures later { faults self.old ≤ faults self.new }
-        ensures failed { result ≡ Got.Failed → Rose (faults self.old) (faults self.new) };
+        ensures { Reads (told self.old) (told self.new) room.new result };
 
     /// Appends the whole piece to what was written on the connection at hand. After a failure a front was appended.
     fn write(&mut self, piece: &[u8]) -> Wrote
-        requires { last self.old ≡ Some Next.Line }
-        ensures told { IfSome (connections self.old) (λ old. Writes old (connections self.new) piece.now result) }
-        ensures last { last self.new ≡ last self.old }
-        ensures later { faults self.old ≤ faults self.new }
-        ensures failed { result ≡ Wrote.Failed → Rose (faults self.old) (faults self.new) };
+        requires { (told self.old).last ≡ Some Next.Line }
+        ensures { Writes (told self.old) (told self.new) piece.now result };
 }

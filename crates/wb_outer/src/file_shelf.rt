@@ -1,40 +1,48 @@
-ghost use Rattle.std.specs.Prelude.{◌≡◌, ◌≤◌, ◌++◌, ◌∷◌, [], Some, IfOk, IfSome, OnOk, OnErr, if◌then◌else◌};
-ghost use Rattle.wb_outer.specs.Faults.{Rose, raised};
-ghost use Rattle.wb_outer.specs.Shelf.{IsUnlessFailed, IsWithinLimit, taken_of, has_failed};
+ghost use Rattle.std.specs.Prelude.{◌≡◌, [], ◌++◌, ◌∷◌, IfOk, OnErr, true, false};
+ghost use Rattle.wb_outer.specs.Faults.{counted};
+ghost use Rattle.wb_outer.specs.Shelf.{Gives, has_failed};
+ghost use Rattle.wb_outer.specs.Files.{IsDue, IsReadOf, IsJustOpened, files_told};
 
 use crate::bytes::Bytes;
 use crate::faults::raise;
-use crate::shelf::{FILE_LIMIT, Shelf, Taken};
+use crate::files::{Files, Part, SystemFiles};
+use crate::log::Log;
+use crate::shelf;
+use crate::shelf::{Call, FILE_LIMIT, Shelf, Taken};
 use std::alloc::{AllocError, Global};
-use std::fs;
-use std::fs::File;
-use std::io::{ErrorKind, Read};
 use std::marker::Model;
-use wb_base::List;
 
-/// The files of the system, by path. It tells nothing of what they hold.
+/// A shelf over files by path. What they hold it does not tell.
 #[derive(Drop)]
-pub struct FileShelf {
-    rt: HostRuntime,
-    asked: List<Bytes>,
+pub struct FileShelf<F> {
+    files: F,
+    given: Log<Call>,
     faults: u64,
 }
 
-impl Model for FileShelf {
-    ghost use Rattle.wb_outer.specs.Shelf.{FileShelfState};
+impl<F> Model for FileShelf<F> {
+    ghost use Rattle.wb_outer.specs.Files.{FileShelfState};
 
-    ghost Value = { FileShelfState };
+    ghost Value = { FileShelfState F };
 
-    ghost view = { λ s. record { asked = s.asked; faults = s.faults } };
+    ghost view = { λ s. record { files = s.files; given = s.given; faults = s.faults } };
 }
 
-impl FileShelf {
-    pub fn new(rt: &HostRuntime, alloc: Global) -> FileShelf
-        ensures { result ≡ record { asked = []; faults = 0 } }
+impl FileShelf<SystemFiles> {
+    /// The files of the system.
+    pub fn new(rt: &HostRuntime) -> FileShelf<SystemFiles> {
+        FileShelf::over(SystemFiles::new(rt))
+    }
+}
+
+impl<F: Files> FileShelf<F> {
+    /// A shelf over these files.
+    pub fn over(files: F) -> FileShelf<F>
+        ensures { result ≡ record { files = files; given = []; faults = 0 } }
     {
         FileShelf {
-            rt: *rt,
-            asked: List::new(alloc),
+            files,
+            given: Log::new(),
             faults: 0,
         }
     }
@@ -43,52 +51,54 @@ impl FileShelf {
 // So many bytes are read at once.
 const ROOM: usize = 8192;
 
-/// Reads to the end, but no further than the limit needs. A failed read is a failed call.
-pub fn read_file<R: Read>(alloc: Global, from: &mut R) -> Result<Taken, AllocError>
-    ensures told { IfSome (R.remaining from.old) (λ bytes. IfOk result (λ taken. IsUnlessFailed taken (taken_of (Some bytes)))) }
-    ensures within { IfOk result IsWithinLimit }
+// Reads the file that was just opened to its end, but no further than the limit needs.
+fn read_open<F: Files>(alloc: Global, files: &mut F) -> Result<Taken, AllocError>
+    requires { IsJustOpened (F.told files.old) }
+    ensures opened { (F.told files.new).opened ≡ (F.told files.old).opened }
+    ensures due { IfOk result (IsDue (F.told files.new)) }
 {
     let mut bytes = Vec::new(alloc);
     let mut room = [0u8; ROOM];
-    'reads: for _ in 0..u64::MAX {
-        match from.read(&mut room) {
-            Ok(0) => return Ok(Taken::Bytes(Bytes::from_vec(bytes))),
-            Ok(n) if n > FILE_LIMIT - bytes.len() => return Ok(Taken::TooBig),
-            Ok(n) => bytes.extend_from_slice(&room[..n])?,
-            Err(error) if error.kind() == ErrorKind::Interrupted => {}
-            Err(_) => return Ok(Taken::Failed),
+    'reads: for _round in 0..u64::MAX {
+        match files.read(&mut room) {
+            Part::Bytes(count) if count > FILE_LIMIT - bytes.len() => return Ok(Taken::TooBig),
+            Part::Bytes(count) => bytes.extend_from_slice(&room[..count])?,
+            Part::End => return Ok(Taken::Bytes(Bytes::from_vec(bytes))),
+            Part::Interrupted => {}
+            Part::Failed => return Ok(Taken::Failed),
         }
     }
     Ok(Taken::Failed)
 }
 
-// The open file of a path. A name that is no text is no path.
-fn open(rt: &HostRuntime, name: &[u8]) -> Option<File> {
-    let path = std::str::from_utf8(name).ok()?;
-    fs::open(rt, path).ok()
+/// Opens the file of a name, reads it and closes it. A name that is no text is no path.
+pub fn read_file<F: Files>(alloc: Global, files: &mut F, name: &[u8]) -> Result<Taken, AllocError>
+    ensures { IfOk result (IsReadOf name.now (F.told files.old) (F.told files.new)) }
+{
+    let Ok(path) = std::str::from_utf8(name) else {
+        return Ok(Taken::Failed);
+    };
+    if !files.open(path) {
+        return Ok(Taken::Failed);
+    }
+    let taken = read_open(alloc, files);
+    files.close();
+    taken
 }
 
-impl Shelf for FileShelf {
-    ghost asked = { λ s. s.asked };
-
-    ghost faults = { λ s. s.faults };
+impl<F: Files> Shelf for FileShelf<F> {
+    ghost told = { files_told };
 
     fn take(&mut self, alloc: Global, name: &[u8]) -> Result<Taken, AllocError>
-        ensures within { IfOk result IsWithinLimit }
-        ensures noted { OnOk result (self.new.asked ≡ self.old.asked ++ name.now ∷ []) }
-        ensures later { self.old.faults ≤ self.new.faults }
-        ensures failed { IfOk result (λ taken. taken ≡ Taken.Failed → Rose self.old.faults self.new.faults) }
-        ensures counted { IfOk result (λ taken. self.new.faults ≡ (if has_failed taken then raised self.old.faults else self.old.faults)) }
-        ensures memory { OnErr result (self.new ≡ self.old) }
+        ensures gives { IfOk result (Gives (files_told self.old) (files_told self.new) name.now) }
+        ensures read { IfOk result (IsReadOf name.now (F.told self.old.files) (F.told self.new.files)) }
+        ensures counted { IfOk result (λ taken. self.new.faults ≡ counted (has_failed taken) self.old.faults) }
+        ensures memory { OnErr result (files_told self.new ≡ files_told self.old) }
     {
-        let taken = match open(&self.rt, name) {
-            Some(mut file) => read_file(alloc, &mut file)?,
-            None => Taken::Failed,
-        };
-        self.asked.push(Bytes::from_slice(alloc, name)?)?;
+        let taken = read_file(alloc, &mut self.files, name)?;
         if matches!(taken, Taken::Failed) {
             self.faults = raise(self.faults);
         }
-        Ok(taken)
+        Ok(shelf::note(&mut self.given, name, taken))
     }
 }

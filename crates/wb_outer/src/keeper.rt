@@ -1,7 +1,5 @@
-ghost use Rattle.std.specs.Prelude.{◌≡◌, ℕ, ◌≤◌, List, Option, None, IfOk, IfSome, OnErr};
-ghost use Rattle.wb_outer.specs.Faults.{Rose};
-ghost use Rattle.wb_outer.specs.Keeper.{IsAscending, Gives, Commits};
-ghost use Rattle.wb_outer.specs.declared.keeper.Row.{Row};
+ghost use Rattle.std.specs.Prelude.{◌≡◌, IfOk, OnErr};
+ghost use Rattle.wb_outer.specs.Keeper.{KeeperTold, Loads, Commits};
 
 use crate::bytes::Bytes;
 use std::alloc::{AllocError, Global};
@@ -49,25 +47,14 @@ pub enum Committed {
 
 /// Rows that outlive a run.
 pub trait Keeper {
-    // the rows, ascending by key, where the keeper tells them
-    ghost rows: { Self → Option (List Row) } = { λ _. None };
-
-    // the count of faults
-    ghost faults: { Self → ℕ };
+    ghost told: { Self → KeeperTold };
 
     /// The rows, ascending by key.
     fn load(&mut self, alloc: Global) -> Result<Loaded, AllocError>
-        ensures told { IfSome (rows self.old) (λ rows. IfOk result (λ loaded. Gives loaded rows)) }
-        ensures ascending { IfSome (rows self.old) IsAscending }
-        ensures rows_stay { rows self.new ≡ rows self.old }
-        ensures later { faults self.old ≤ faults self.new }
-        ensures failed { IfOk result (λ loaded. loaded ≡ Loaded.Failed → Rose (faults self.old) (faults self.new)) }
-        ensures memory { OnErr result (faults self.new ≡ faults self.old) };
+        ensures loads { IfOk result (Loads (told self.old) (told self.new)) }
+        ensures memory { OnErr result (told self.new ≡ told self.old) };
 
     /// Makes all changes at once, with the effect of making them in their order, or none of them.
     fn commit(&mut self, alloc: Global, changes: &[RowChange]) -> Committed
-        ensures told { Commits (rows self.old) (rows self.new) changes.now result }
-        ensures later { faults self.old ≤ faults self.new }
-        ensures failed { result ≡ Committed.Failed → Rose (faults self.old) (faults self.new) }
-        ensures memory { result ≡ Committed.NoMemory → faults self.new ≡ faults self.old };
+        ensures { Commits (told self.old) (told self.new) changes.now result };
 }

@@ -1,29 +1,44 @@
-ghost use Rattle.std.specs.Prelude.{◌≡◌, ◌≤◌, ◌++◌, ◌∷◌, [], Some, IfOk, IfSome, OnOk, OnErr};
-ghost use Rattle.wb_outer.specs.Faults.{Rose, plan_of};
-ghost use Rattle.wb_outer.specs.Shelf.{IsUnlessFailed, IsWithinLimit, taken_of, file_named, answer_of, after_take};
+ghost use Rattle.std.specs.Prelude.{◌≡◌, [], IfOk, OnOk, OnErr};
+ghost use Rattle.wb_outer.specs.Faults.{plan_of};
+ghost use Rattle.wb_outer.specs.Shelf.{Gives, memory_told, names_of, answer_of, after_take};
 
 use crate::bytes::Bytes;
 use crate::faults::FaultPlan;
+use crate::log::Log;
 use crate::shelf;
-use crate::shelf::{Shelf, Taken};
+use crate::shelf::{Call, Shelf, Taken};
 use std::alloc::{AllocError, Global};
 use std::marker::Model;
 use wb_base::List;
 
 /// A shelf whose files stand in memory. Of files with one name the first counts.
-#[derive(Debug, Drop)]
 pub struct MemoryShelf {
     files: List<(Bytes, Bytes)>,
     asked: List<Bytes>,
+    given: Log<Call>,
     plan: FaultPlan,
 }
 
+impl Drop for MemoryShelf {
+    fn drop(self) {
+        let MemoryShelf {
+            files: _files,
+            asked: _asked,
+            given: _given,
+            plan: _plan,
+        } = self;
+    }
+}
+
 impl Model for MemoryShelf {
-    ghost use Rattle.wb_outer.specs.Shelf.{MemoryShelfState};
+    ghost use Rattle.std.specs.Prelude.{◌≡◌};
+    ghost use Rattle.wb_outer.specs.Shelf.{MemoryShelfState, names_of};
 
     ghost Value = { MemoryShelfState };
 
-    ghost view = { λ s. record { files = s.files; asked = s.asked; plan = s.plan } };
+    ghost view = { λ s. record { files = s.files; given = s.given; plan = s.plan } };
+
+    ghost invariant = { λ s. s.asked ≡ names_of s.given };
 }
 
 impl MemoryShelf {
@@ -33,13 +48,21 @@ impl MemoryShelf {
         files: Vec<(Bytes, Bytes)>,
         failing: Vec<u64>,
     ) -> Result<MemoryShelf, AllocError>
-        ensures { IfOk result (λ shelf. shelf ≡ record { files = files.items; asked = []; plan = plan_of failing.items }) }
+        ensures { IfOk result (λ shelf. shelf ≡ record { files = files.items; given = []; plan = plan_of failing.items }) }
     {
         Ok(MemoryShelf {
             files: List::from_vec(files),
             asked: List::new(alloc),
+            given: Log::new(),
             plan: FaultPlan::new(failing),
         })
+    }
+
+    /// The names that were asked, in order.
+    pub fn asked(&self) -> &[Bytes]
+        ensures { result.now ≡ names_of self.now.given }
+    {
+        self.asked.as_slice()
     }
 
     // The answer to a call at hand, which is not counted yet.
@@ -57,27 +80,17 @@ impl MemoryShelf {
 }
 
 impl Shelf for MemoryShelf {
-    ghost files = { λ s. Some (file_named s.files) };
-
-    ghost asked = { λ s. s.asked };
-
-    ghost faults = { λ s. s.plan.faults };
+    ghost told = { memory_told };
 
     fn take(&mut self, alloc: Global, name: &[u8]) -> Result<Taken, AllocError>
-        ensures told { IfSome (Some (file_named self.old.files)) (λ files. IfOk result (λ taken. IsUnlessFailed taken (taken_of (files name.now)))) }
-        ensures within { IfOk result IsWithinLimit }
-        ensures files_stay { Some (file_named self.new.files) ≡ Some (file_named self.old.files) }
-        ensures noted { OnOk result (self.new.asked ≡ self.old.asked ++ name.now ∷ []) }
-        ensures later { self.old.plan.faults ≤ self.new.plan.faults }
-        ensures failed { IfOk result (λ taken. taken ≡ Taken.Failed → Rose self.old.plan.faults self.new.plan.faults) }
-        ensures memory_asked { OnErr result (self.new.asked ≡ self.old.asked) }
-        ensures memory_faults { OnErr result (self.new.plan.faults ≡ self.old.plan.faults) }
-        ensures answer { IfOk result (λ taken. taken ≡ answer_of self.old name.now) }
+        ensures gives { IfOk result (Gives (memory_told self.old) (memory_told self.new) name.now) }
+        ensures answer { IfOk result (λ answer. answer ≡ answer_of self.old name.now) }
         ensures after { OnOk result (self.new ≡ after_take self.old name.now) }
         ensures memory { OnErr result (self.new ≡ self.old) }
     {
         let taken = self.answer(alloc, name)?;
         self.asked.push(Bytes::from_slice(alloc, name)?)?;
+        let taken = shelf::note(&mut self.given, name, taken);
         self.plan.count(matches!(taken, Taken::Failed));
         Ok(taken)
     }

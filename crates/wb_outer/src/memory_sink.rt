@@ -1,18 +1,28 @@
-ghost use Rattle.std.specs.Prelude.{◌≡◌, ◌≤◌, ◌++◌, [], Some, IfOk};
-ghost use Rattle.std.specs.Io.KnownBytes.{append_known};
-ghost use Rattle.wb_outer.specs.Faults.{Rose, plan_of, after_call};
-ghost use Rattle.wb_outer.specs.Sink.{AppendsFront, IsPlanned, has_failed, appended};
+ghost use Rattle.std.specs.Prelude.{◌≡◌, ◌++◌, [], IfOk};
+ghost use Rattle.wb_outer.specs.Faults.{plan_of};
+ghost use Rattle.wb_outer.specs.Sink.{Receives, IsPlanned, memory_told, appended, after_write};
 
 use crate::faults::FaultPlan;
+use crate::log::Log;
 use crate::sink::{Sink, Wrote};
 use std::alloc::{AllocError, Global};
 use std::marker::Model;
 
 /// A sink that keeps what is written, and fails where it is told to.
-#[derive(Debug, Drop)]
 pub struct MemorySink {
+    handed: Log<Log<u8>>,
     bytes: Vec<u8>,
     plan: FaultPlan,
+}
+
+impl Drop for MemorySink {
+    fn drop(self) {
+        let MemorySink {
+            handed: _handed,
+            bytes: _bytes,
+            plan: _plan,
+        } = self;
+    }
 }
 
 impl Model for MemorySink {
@@ -20,15 +30,16 @@ impl Model for MemorySink {
 
     ghost Value = { MemorySinkState };
 
-    ghost view = { λ s. record { bytes = s.bytes.items; plan = s.plan } };
+    ghost view = { λ s. record { handed = s.handed; bytes = s.bytes.items; plan = s.plan } };
 }
 
 impl MemorySink {
     /// An empty sink. `failing` has the numbers, from 0, of the calls that fail.
     pub fn new(alloc: Global, failing: Vec<u64>) -> Result<MemorySink, AllocError>
-        ensures { IfOk result (λ sink. sink ≡ record { bytes = []; plan = plan_of failing.items }) }
+        ensures { IfOk result (λ sink. sink ≡ record { handed = []; bytes = []; plan = plan_of failing.items }) }
     {
         Ok(MemorySink {
+            handed: Log::new(),
             bytes: Vec::new(alloc),
             plan: FaultPlan::new(failing),
         })
@@ -57,19 +68,14 @@ fn append(bytes: &mut Vec<u8>, plan: &FaultPlan, piece: &[u8]) -> Wrote
 }
 
 impl Sink for MemorySink {
-    ghost sent = { λ s. Some s.bytes };
-
-    ghost faults = { λ s. s.plan.faults };
+    ghost told = { memory_told };
 
     fn write(&mut self, piece: &[u8]) -> Wrote
-        ensures done { result ≡ Wrote.Done → Some self.new.bytes ≡ append_known (Some self.old.bytes) piece.now }
-        ensures front { result ≡ Wrote.Failed → AppendsFront (Some self.old.bytes) (Some self.new.bytes) piece.now }
-        ensures later { self.old.plan.faults ≤ self.new.plan.faults }
-        ensures failed { result ≡ Wrote.Failed → Rose self.old.plan.faults self.new.plan.faults }
+        ensures receives { Receives (memory_told self.old) (memory_told self.new) piece.now result }
         ensures planned { IsPlanned self.old.plan result }
-        ensures bytes { self.new.bytes ≡ self.old.bytes ++ appended result piece.now }
-        ensures counted { self.new.plan ≡ after_call (has_failed result) self.old.plan }
+        ensures after { self.new ≡ after_write result piece.now self.old }
     {
+        self.handed.note(&Log::of(piece));
         let wrote = append(&mut self.bytes, &self.plan, piece);
         self.plan.count(wrote == Wrote::Failed);
         wrote

@@ -1,9 +1,9 @@
-ghost use Rattle.std.specs.Prelude.{◌≡◌, ℕ, ◌≤◌, ◌++◌, ◌∷◌, [], List, Option, None, Some, length, IfOk, IfSome, OnOk, OnErr};
-ghost use Rattle.wb_outer.specs.Faults.{Rose};
+ghost use Rattle.std.specs.Prelude.{◌≡◌, ◌++◌, ◌∷◌, [], Option, Some, IfOk, OnErr};
 ghost use Rattle.std.specs.Option.{option_copied};
-ghost use Rattle.wb_outer.specs.Shelf.{IsUnlessFailed, IsWithinLimit, taken_of, file_named};
+ghost use Rattle.wb_outer.specs.Shelf.{ShelfTold, Gives, call, taken_of, file_named};
 
 use crate::bytes::Bytes;
+use crate::log::Log;
 use std::alloc::{AllocError, Global};
 
 /// What a call for the bytes of a name answers.
@@ -15,31 +15,38 @@ pub enum Taken {
     Failed,
 }
 
-/// Files by name. A shelf keeps the list of the names that were asked of it.
+/// A call for the bytes of a name, and its answer.
+#[derive(Drop)]
+pub struct Call {
+    pub name: Log<u8>,
+    pub answer: Taken,
+}
+
+/// Files by name. A shelf tells each name that was asked of it, with the answer.
 pub trait Shelf {
-    // the bytes of each name that is not missing, where the shelf tells them
-    ghost files: { Self → Option (List ℕ → Option (List ℕ)) } = { λ _. None };
-
-    // the names asked so far
-    ghost asked: { Self → List (List ℕ) };
-
-    // the count of faults
-    ghost faults: { Self → ℕ };
+    ghost told: { Self → ShelfTold };
 
     /// The bytes of a name. A missing name is a failed call.
     fn take(&mut self, alloc: Global, name: &[u8]) -> Result<Taken, AllocError>
-        ensures told { IfSome (files self.old) (λ files. IfOk result (λ taken. IsUnlessFailed taken (taken_of (files name.now)))) }
-        ensures within { IfOk result IsWithinLimit }
-        ensures files_stay { files self.new ≡ files self.old }
-        ensures noted { OnOk result (asked self.new ≡ asked self.old ++ name.now ∷ []) }
-        ensures later { faults self.old ≤ faults self.new }
-        ensures failed { IfOk result (λ taken. taken ≡ Taken.Failed → Rose (faults self.old) (faults self.new)) }
-        ensures memory_asked { OnErr result (asked self.new ≡ asked self.old) }
-        ensures memory_faults { OnErr result (faults self.new ≡ faults self.old) };
+        ensures gives { IfOk result (Gives (told self.old) (told self.new) name.now) }
+        ensures memory { OnErr result (told self.new ≡ told self.old) };
 }
 
 /// A shelf gives at most so many bytes at once.
 pub const FILE_LIMIT: usize = 16_777_216;
+
+/// The call for a name that has this answer is noted.
+pub(crate) fn note(given: &mut Log<Call>, name: &[u8], answer: Taken) -> Taken
+    ensures noted { given.new ≡ given.old ++ call name.now answer ∷ [] }
+    ensures same { result ≡ answer }
+{
+    let call = Call {
+        name: Log::of(name),
+        answer,
+    };
+    given.note(&call);
+    call.answer
+}
 
 /// The first of these files that has the name.
 pub(crate) fn file_named<'a>(files: &'a [(Bytes, Bytes)], name: &[u8]) -> Option<&'a Bytes>

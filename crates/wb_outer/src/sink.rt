@@ -1,7 +1,4 @@
-ghost use Rattle.std.specs.Prelude.{◌≡◌, ℕ, ◌≤◌, List, Option, None};
-ghost use Rattle.std.specs.Io.KnownBytes.{append_known};
-ghost use Rattle.wb_outer.specs.Faults.{Rose};
-ghost use Rattle.wb_outer.specs.Sink.{AppendsFront};
+ghost use Rattle.wb_outer.specs.Sink.{SinkTold, Receives};
 
 /// What a call that writes answers.
 #[derive(Clone, Copy, Debug, PartialEq, Eq)]
@@ -10,18 +7,11 @@ pub enum Wrote {
     Failed,
 }
 
-/// Where the program prints.
+/// Where the program prints. A sink tells each piece that it was handed, and all that it took.
 pub trait Sink {
-    // all that was written, where the sink tells it
-    ghost sent: { Self → Option (List ℕ) } = { λ _. None };
-
-    // the count of faults
-    ghost faults: { Self → ℕ };
+    ghost told: { Self → SinkTold };
 
     /// Appends the whole piece. After a failure a front of the piece was appended.
     fn write(&mut self, piece: &[u8]) -> Wrote
-        ensures done { result ≡ Wrote.Done → sent self.new ≡ append_known (sent self.old) piece.now }
-        ensures front { result ≡ Wrote.Failed → AppendsFront (sent self.old) (sent self.new) piece.now }
-        ensures later { faults self.old ≤ faults self.new }
-        ensures failed { result ≡ Wrote.Failed → Rose (faults self.old) (faults self.new) };
+        ensures { Receives (told self.old) (told self.new) piece.now result };
 }

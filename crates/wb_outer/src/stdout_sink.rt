@@ -1,66 +1,78 @@
-ghost use Rattle.std.specs.Prelude.{◌≡◌, ◌≤◌, if◌then◌else◌};
-ghost use Rattle.std.specs.Io.KnownBytes.{Appends};
-ghost use Rattle.wb_outer.specs.Faults.{Rose, raised};
-ghost use Rattle.wb_outer.specs.Sink.{AppendsKnownFront, has_failed};
+ghost use Rattle.std.specs.Prelude.{◌≡◌, []};
+ghost use Rattle.wb_outer.specs.Faults.{counted};
+ghost use Rattle.wb_outer.specs.Sink.{Receives, has_failed};
+ghost use Rattle.wb_outer.specs.Output.{TakesWhole, HasCause, output_told};
 
 use crate::faults::raise;
+use crate::log::Log;
+use crate::output::{Output, Put, SystemOutput};
 use crate::sink::{Sink, Wrote};
-use std::io;
-use std::io::{ErrorKind, Write};
 use std::marker::Model;
 
-/// The standard output. It tells nothing of what was written.
+/// A sink over an output.
 #[derive(Drop)]
-pub struct StdoutSink {
-    rt: HostRuntime,
+pub struct StdoutSink<O> {
+    output: O,
+    handed: Log<Log<u8>>,
     faults: u64,
 }
 
-impl Model for StdoutSink {
-    ghost use Rattle.std.specs.Prelude.{ℕ};
+impl<O> Model for StdoutSink<O> {
+    ghost use Rattle.wb_outer.specs.Output.{OutputSinkState};
 
-    ghost Value = { ℕ };
+    ghost Value = { OutputSinkState O };
 
-    ghost view = { λ s. s.faults };
+    ghost view = { λ s. record { output = s.output; handed = s.handed; faults = s.faults } };
 }
 
-impl StdoutSink {
-    pub fn new(rt: &HostRuntime) -> StdoutSink
-        ensures { result ≡ 0 }
+impl StdoutSink<SystemOutput> {
+    /// The standard output.
+    pub fn new(rt: &HostRuntime) -> StdoutSink<SystemOutput> {
+        StdoutSink::over(SystemOutput::new(rt))
+    }
+}
+
+impl<O: Output> StdoutSink<O> {
+    /// A sink over this output.
+    pub fn over(output: O) -> StdoutSink<O>
+        ensures { result ≡ record { output = output; handed = []; faults = 0 } }
     {
-        StdoutSink { rt: *rt, faults: 0 }
+        StdoutSink {
+            output,
+            handed: Log::new(),
+            faults: 0,
+        }
     }
 }
 
 /// Writes the whole piece, in as many writes as it takes. After a failure a front of it was written.
-pub fn write_whole<W: Write>(to: &mut W, piece: &[u8]) -> Wrote
-    ensures done { result ≡ Wrote.Done → Appends (W.contents to.old) (W.contents to.new) piece.now }
-    ensures front { result ≡ Wrote.Failed → AppendsKnownFront (W.contents to.old) (W.contents to.new) piece.now }
+pub fn write_whole<O: Output>(to: &mut O, piece: &[u8]) -> Wrote
+    ensures { TakesWhole (O.told to.old) (O.told to.new) piece.now result }
 {
     let mut written = 0;
-    'writes: for _ in 0..u64::MAX {
+    'writes: for _round in 0..u64::MAX {
         if written >= piece.len() {
             return Wrote::Done;
         }
-        match to.write(&piece[written..]) {
-            Ok(0) => return Wrote::Failed,
-            Ok(n) => written += n,
-            Err(error) if error.kind() == ErrorKind::Interrupted => {}
-            Err(_) => return Wrote::Failed,
+        match to.put(&piece[written..]) {
+            Put::Took(count) => written += count,
+            Put::Interrupted => {}
+            Put::Failed => return Wrote::Failed,
         }
     }
     Wrote::Failed
 }
 
-impl Sink for StdoutSink {
-    ghost faults = { λ s. s };
+impl<O: Output> Sink for StdoutSink<O> {
+    ghost told = { output_told O.told };
 
     fn write(&mut self, piece: &[u8]) -> Wrote
-        ensures later { self.old ≤ self.new }
-        ensures failed { result ≡ Wrote.Failed → Rose self.old self.new }
-        ensures counted { self.new ≡ (if has_failed result then raised self.old else self.old) }
+        ensures receives { Receives (output_told O.told self.old) (output_told O.told self.new) piece.now result }
+        ensures cause { result ≡ Wrote.Failed → HasCause (O.told self.old.output) (O.told self.new.output) }
+        ensures counted { self.new.faults ≡ counted (has_failed result) self.old.faults }
     {
-        let wrote = write_whole(&mut io::writer(&self.rt), piece);
+        self.handed.note(&Log::of(piece));
+        let wrote = write_whole(&mut self.output, piece);
         if wrote == Wrote::Failed {
             self.faults = raise(self.faults);
         }

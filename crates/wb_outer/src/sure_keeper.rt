@@ -1,6 +1,6 @@
-ghost use Rattle.std.specs.Prelude.{◌≡◌, ◌≤◌, Some, IfOk, length, insert};
+ghost use Rattle.std.specs.Prelude.{◌≡◌, ◌≤◌, IfOk, OnErr, length, insert};
 ghost use Rattle.std.specs.List.Sorted.{IsPermutation};
-ghost use Rattle.wb_outer.specs.Keeper.{IsAscending, Gives, erased, inserted, changed_by, changed, SureCommits};
+ghost use Rattle.wb_outer.specs.Keeper.{IsAscending, Loads, Commits, erased, inserted, changed_by, changed, sure_told};
 ghost use Rattle.wb_outer.specs.declared.keeper.Loaded.TheVariants.{Rows};
 
 use crate::bytes::Bytes;
@@ -29,7 +29,7 @@ impl Model for SureKeeper {
 
 impl SureKeeper {
     /// A keeper of these rows.
-    pub fn new(_alloc: Global, rows: Vec<Row>) -> SureKeeper
+    pub fn new(rows: Vec<Row>) -> SureKeeper
         ensures all { IsPermutation rows.items result }
         ensures ascending { IsAscending result }
     {
@@ -105,21 +105,20 @@ fn after_changes(
 }
 
 impl Keeper for SureKeeper {
-    ghost rows = { λ k. Some k };
-
-    ghost faults = { λ _. 0 };
+    ghost told = { sure_told };
 
     fn load(&mut self, alloc: Global) -> Result<Loaded, AllocError>
-        ensures told { IfOk result (λ loaded. Gives loaded self.old) }
-        ensures ascending { IsAscending self.old }
-        ensures rows_stay { Some self.new ≡ Some self.old }
+        ensures loads { IfOk result (Loads (sure_told self.old) (sure_told self.new)) }
+        ensures memory { OnErr result (sure_told self.new ≡ sure_told self.old) }
         ensures rows { IfOk result (λ loaded. loaded ≡ Rows self.old) }
+        ensures ascending { IsAscending self.old }
     {
         Ok(Loaded::Rows(self.rows.copy(alloc)?))
     }
 
     fn commit(&mut self, alloc: Global, changes: &[RowChange]) -> Committed
-        ensures exact { SureCommits self.old self.new changes.now result }
+        ensures commits { Commits (sure_told self.old) (sure_told self.new) changes.now result }
+        ensures sure { result ≡ Committed.Failed → ⊥ }
     {
         match after_changes(alloc, &self.rows, changes) {
             Ok(rows) => {

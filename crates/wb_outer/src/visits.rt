@@ -1,0 +1,61 @@
+ghost use Rattle.std.specs.Prelude.{◌≡◌, ◌++◌, ◌∷◌, []};
+ghost use Rattle.wb_outer.specs.Door.{fresh, after_read, after_write, change_at_hand};
+
+use crate::log::Log;
+use std::marker::Model;
+
+// What happened at a door.
+#[derive(Drop)]
+enum Event {
+    Came,
+    Read(Log<u8>),
+    Wrote(Log<u8>),
+}
+
+/// The connections that a door took, as contracts see them.
+#[derive(Drop)]
+pub struct Visits {
+    events: Log<Event>,
+}
+
+impl Model for Visits {
+    ghost use Rattle.std.specs.Prelude.{List, []};
+    ghost use Rattle.wb_outer.specs.Door.{Connection};
+    ghost use Rattle.wb_outer.specs.Visits.{happened};
+
+    ghost Value = { List Connection };
+
+    ghost view = { λ v. happened [] v.events };
+}
+
+impl Visits {
+    pub fn new() -> Visits
+        ensures { result ≡ [] }
+    {
+        Visits { events: Log::new() }
+    }
+
+    /// One more was taken.
+    #[tactic(auto, using(crate::proofs::Connections::happened_last))]
+    pub fn add(&mut self)
+        ensures { self.new ≡ self.old ++ fresh ∷ [] }
+    {
+        self.events.note(&Event::Came);
+    }
+
+    /// These bytes were read on the last one.
+    #[tactic(auto, using(crate::proofs::Connections::happened_last))]
+    pub fn read(&mut self, bytes: &[u8])
+        ensures { self.new ≡ change_at_hand (after_read bytes.now) self.old }
+    {
+        self.events.note(&Event::Read(Log::of(bytes)));
+    }
+
+    /// These bytes were written on the last one.
+    #[tactic(auto, using(crate::proofs::Connections::happened_last))]
+    pub fn write(&mut self, bytes: &[u8])
+        ensures { self.new ≡ change_at_hand (after_write bytes.now) self.old }
+    {
+        self.events.note(&Event::Wrote(Log::of(bytes)));
+    }
+}
