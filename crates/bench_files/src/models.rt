@@ -13,8 +13,8 @@ pub fn file_in<H: Shelf>(
     shelf: &mut H,
     name: &[u8],
 ) -> Result<Option<Bytes>, AllocError>
-    ensures told { IfSome (H.files shelf.old) (λ files. IfOk result (λ found. IfSome found (λ bytes. bytes_under files name.now ≡ Some bytes))) }
-    ensures files_stay { H.files shelf.new ≡ H.files shelf.old }
+    ensures told { IfSome (H.told shelf.old).files (λ files. IfOk result (λ found. IfSome found (λ bytes. bytes_under files name.now ≡ Some bytes))) }
+    ensures files_stay { (H.told shelf.new).files ≡ (H.told shelf.old).files }
 {
     match shelf.take(alloc, name)? {
         Taken::Bytes(bytes) => Ok(Some(bytes)),
@@ -29,8 +29,8 @@ pub fn model_in<H: Shelf>(
     metamodel: &[u8],
     model: &[u8],
 ) -> Result<Option<Model>, AllocError>
-    ensures told { IfSome (H.files shelf.old) (λ files. IfOk result (λ found. IfSome found (λ m. model_under files metamodel.now model.now ≡ Some m))) }
-    ensures files_stay { H.files shelf.new ≡ H.files shelf.old }
+    ensures told { IfSome (H.told shelf.old).files (λ files. IfOk result (λ found. IfSome found (λ m. model_under files metamodel.now model.now ≡ Some m))) }
+    ensures files_stay { (H.told shelf.new).files ≡ (H.told shelf.old).files }
 {
     let Some(metamodel) = metamodel_in(alloc, shelf, metamodel)? else {
         return Ok(None);
@@ -46,8 +46,8 @@ fn metamodel_in<H: Shelf>(
     shelf: &mut H,
     name: &[u8],
 ) -> Result<Option<Metamodel>, AllocError>
-    ensures told { IfSome (H.files shelf.old) (λ files. IfOk result (λ found. IfSome found (λ mm. metamodel_under files name.now ≡ Some mm))) }
-    ensures files_stay { H.files shelf.new ≡ H.files shelf.old }
+    ensures told { IfSome (H.told shelf.old).files (λ files. IfOk result (λ found. IfSome found (λ mm. metamodel_under files name.now ≡ Some mm))) }
+    ensures files_stay { (H.told shelf.new).files ≡ (H.told shelf.old).files }
 {
     match file_in(alloc, shelf, name)? {
         Some(bytes) => Ok(read_metamodel(alloc, bytes.as_slice()).ok()),

@@ -9,10 +9,10 @@ use std::process::ExitCode;
 use wb_aql_syntax::{ParseRefusal, parse, print};
 use wb_base::Text;
 use wb_console::{command_words, finish};
-use wb_outer::{FileShelf, Shelf, Taken};
+use wb_outer::{FileShelf, Shelf, StdoutSink, Taken};
 
 fn main(rt: HostRuntime) -> ExitCode {
-    finish(&rt, spelling_of_file(&rt))
+    finish(&mut StdoutSink::new(&rt), spelling_of_file(&rt))
 }
 
 /// What is printed of the file that the one word names; none where it cannot be read.
@@ -22,7 +22,7 @@ fn spelling_of_file(rt: &HostRuntime) -> Result<Option<Text>, AllocError> {
     let [name] = words.as_slice() else {
         return Ok(None);
     };
-    match FileShelf::new(rt, alloc).take(alloc, name.as_slice())? {
+    match FileShelf::new(rt).take(alloc, name.as_slice())? {
         Taken::Bytes(bytes) => Ok(Some(spelling_of(alloc, bytes.as_slice())?)),
         _ => Ok(None),
     }

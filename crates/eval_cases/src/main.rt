@@ -10,10 +10,10 @@ use std::alloc::{AllocError, Global};
 use std::process::ExitCode;
 use wb_base::Text;
 use wb_console::{command_words, finish};
-use wb_outer::{Bytes, FileShelf};
+use wb_outer::{Bytes, FileShelf, StdoutSink};
 
 fn main(rt: HostRuntime) -> ExitCode {
-    finish(&rt, answer(&rt))
+    finish(&mut StdoutSink::new(&rt), answer(&rt))
 }
 
 /// What is printed for the words: threes of the files of a metamodel, a model and expressions. None where one of them is not of its form.
@@ -41,7 +41,7 @@ fn evaluated(
     expressions: &Bytes,
 ) -> Result<Option<Text>, AllocError> {
     let alloc = rt.alloc();
-    let mut shelf = FileShelf::new(rt, alloc);
+    let mut shelf = FileShelf::new(rt);
     let Some(model) = model_in(alloc, &mut shelf, metamodel.as_slice(), model.as_slice())? else {
         return Ok(None);
     };

@@ -17,16 +17,16 @@ use std::alloc::AllocError;
 use std::process::ExitCode;
 use wb_base::Text;
 use wb_console::{command_words, finish};
-use wb_outer::{Bytes, FileShelf};
+use wb_outer::{Bytes, FileShelf, StdoutSink, SystemFiles};
 
 fn main(rt: HostRuntime) -> ExitCode {
-    finish(&rt, answer(&rt))
+    finish(&mut StdoutSink::new(&rt), answer(&rt))
 }
 
 /// What is printed for the words: the files of a metamodel, a model and a script, and so on. None where one of them is not of its form.
 fn answer(rt: &HostRuntime) -> Result<Option<Text>, AllocError> {
     let alloc = rt.alloc();
-    let mut shelf = FileShelf::new(rt, alloc);
+    let mut shelf = FileShelf::new(rt);
     let mut shown = String::new(alloc);
     for files in command_words(rt)?.as_slice().chunks(3) {
         if !push_case(rt, &mut shelf, &mut shown, files)? {
@@ -39,7 +39,7 @@ fn answer(rt: &HostRuntime) -> Result<Option<Text>, AllocError> {
 /// Puts the answers to a script last; false where a file is not of its form.
 fn push_case(
     rt: &HostRuntime,
-    shelf: &mut FileShelf,
+    shelf: &mut FileShelf<SystemFiles>,
     shown: &mut String,
     files: &[Bytes],
 ) -> Result<bool, AllocError> {
