@@ -5,7 +5,8 @@ use Rattle.wb_aql_grammar.specs.Tree.{Tree, Arguments, with_type, with_expressio
 use Rattle.wb_aql_grammar.specs.Tree as t
 use Rattle.wb_aql_grammar.specs.Grammar.{Phrase, Expr, Implies, Or, Xor, And, Neg, Cmp, Sum, Term, Unary, Post, Atom, ImpliesMore, OrMore, XorMore, AndMore, CmpMore, SumMore, TermMore, PostMore, Named, Argument, ArgumentMore, Rest, done, sign, name, phrase, last, Line, Reads, reads_sign, reads_name, reads_phrase}
 use Rattle.wb_aql_grammar.specs.Grammar as g
-use Rattle.wb_aql_grammar.specs.Runs.{head, Outcome, Good, Wrong, Deep, next, pick, argument_next, class_or_literal, class_line, lambda_line, expression_line}
+use Rattle.wb_aql_grammar.specs.invariants.Runs.{Outcome, Good, Wrong, Deep, next, pick, argument_next, class_or_literal, class_line, lambda_line, expression_line}
+use Rattle.wb_aql_grammar.specs.Places.{head}
 use Rattle.wb_aql_tokens.specs.declared.token.Token.{Token}
 use Rattle.wb_aql_tokens.specs.declared.token.Token.TheVariants.{Sign, Name, Integer, Quoted}
 use Rattle.wb_aql_tokens.specs.declared.token.Sign.{Sign as SignName}
@@ -15,8 +16,8 @@ use Rattle.wb_aql_grammar.proofs.Ranks.{rank}
 use Rattle.wb_aql_grammar.proofs.Local.{Fit, Front, front_of, some_same, none_some}
 use Rattle.wb_aql_grammar.proofs.Languages.{head_append}
 use Rattle.wb_aql_grammar.proofs.Fits.{Blocks, blocked}
-use Rattle.wb_aql_grammar.specs.Runs as run
-use Rattle.wb_aql_grammar.specs.Runs.{Runs}
+use Rattle.wb_aql_grammar.specs.invariants.Runs as run
+use Rattle.wb_aql_grammar.specs.invariants.Runs.{Runs}
 
 abbrev pub rest_of : Outcome → List Token
 rest_of (Good y rest) = rest

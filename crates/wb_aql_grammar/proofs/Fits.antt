@@ -5,7 +5,7 @@ use Rattle.wb_aql_grammar.specs.Tree.{Tree, no_trees, no_arguments, with_tree, w
 use Rattle.wb_aql_grammar.specs.Tree as t
 use Rattle.wb_aql_grammar.specs.Grammar.{Phrase, Expr, Implies, Or, Xor, And, Neg, Cmp, Sum, Term, Unary, Post, Atom, ImpliesMore, OrMore, XorMore, AndMore, CmpMore, SumMore, TermMore, PostMore, Named, Featured, CallArguments, Argument, ArgumentMore, Elements, Element, ElementMore, openings, Rest, done, sign, name, phrase, opening, last, inside, Line, Reads, reads_done, reads_sign, reads_name, reads_phrase, reads_opening}
 use Rattle.wb_aql_grammar.specs.Grammar as g
-use Rattle.wb_aql_grammar.specs.Runs.{head}
+use Rattle.wb_aql_grammar.specs.Places.{head}
 use Rattle.wb_aql_grammar.specs.Places.{opens}
 use Rattle.wb_aql_tokens.specs.declared.token.Token.{Token}
 use Rattle.wb_aql_tokens.specs.declared.token.Token.TheVariants.{Sign, Name, Integer, Quoted}

@@ -3,7 +3,7 @@ use Rattle.std.proofs.Common.{◌≡◌, List, [], ◌∷◌, ◌++◌, refl, ap
 use Rattle.wb_aql_grammar.specs.Tree.{with_tree}
 use Rattle.wb_aql_grammar.specs.Tree as t
 use Rattle.wb_aql_grammar.specs.View.{tree_of, trees_in, arguments_in}
-use Rattle.wb_aql_grammar.specs.Reading.{with_argument}
+use Rattle.wb_aql_grammar.specs.invariants.Reading.{with_argument}
 use Rattle.wb_aql_grammar.specs.declared.expr.Node.{Node}
 use Rattle.wb_aql_grammar.specs.declared.expr.Argument.{Argument}
 use Rattle.wb_aql_grammar.specs.declared.expr.Argument.TheVariants as a

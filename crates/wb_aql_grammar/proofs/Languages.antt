@@ -3,7 +3,8 @@ use Rattle.std.proofs.Common.{◌≡◌, ℕ, suc, zero, ◌≤◌, List, [], �
 use Rattle.std.specs.Prelude.{Some}
 use Rattle.wb_aql_grammar.specs.Tree.{Tree}
 use Rattle.wb_aql_grammar.specs.Grammar.{Bound, openings, lambdas, Takes, takes_opening, takes_lambda}
-use Rattle.wb_aql_grammar.specs.Runs.{head, Outcome, Good, Wrong, Deep, Spent, no_opening, no_lambda}
+use Rattle.wb_aql_grammar.specs.invariants.Runs.{Outcome, Good, Wrong, Deep, Spent, no_opening, no_lambda}
+use Rattle.wb_aql_grammar.specs.Places.{head}
 use Rattle.wb_aql_tokens.specs.declared.token.Token.{Token}
 use Rattle.wb_aql_grammar.specs.Places.{opens}
 use Rattle.wb_aql_grammar.proofs.Ranks.{rank}
@@ -58,10 +59,10 @@ pub record IsDeep (L : Language) (f n l : ℕ) (text rest : List Token) : Type 0
   pub safe : Safe L n l front
   pub never : (more behind : List Token) (x : Tree) → L n l (front ++ (token ∷ more)) behind x → f ≤ rank (head behind)
 
-abbrev pub Answers : Language → ℕ → ℕ → ℕ → List Token → Outcome → Type 0
-Answers L f n l text (Good y rest) = IsGood L f n l text y rest
-Answers L f n l text (Wrong rest) = IsWrong L f n l text rest
-Answers L f n l text (Deep rest) = IsDeep L f n l text rest
+abbrev pub Explains : Language → ℕ → ℕ → ℕ → List Token → Outcome → Type 0
+Explains L f n l text (Good y rest) = IsGood L f n l text y rest
+Explains L f n l text (Wrong rest) = IsWrong L f n l text rest
+Explains L f n l text (Deep rest) = IsDeep L f n l text rest
 
 pub head_append : (front a b : List Token) → head a ≡ head b → head (front ++ a) ≡ head (front ++ b)
 head_append [] a b e = e
@@ -91,7 +92,7 @@ safe_along to (inr s) = inr (record { p = s.p; q = s.q; split = s.split; viable 
 pub along : (L K : Language) (f n l : ℕ) (text : List Token) (o : Outcome) →
     ((n l : ℕ) (text rest : List Token) (x : Tree) → L n l text rest x → K n l text rest x) →
     ((n l : ℕ) (text rest : List Token) (x : Tree) → K n l text rest x → L n l text rest x) →
-    Answers L f n l text o → Answers K f n l text o
+    Explains L f n l text o → Explains K f n l text o
 along L K f n l text (Good y rest) to back g = record {
   front = g.front;
   split = g.split;
@@ -200,7 +201,7 @@ module _ (L : Language) (M : Tree → Language) (e f n l : ℕ) (text : List Tok
         | inr early ↦ inr (stops u.1 m k u.0 behind x u.3 early)
       ]
 
-  pub both_good : (y : Tree) (more : List Token) → IsGood L e n l text y more → (o : Outcome) → Answers (M y) f n l more o → Answers (Both L M) f n l text o
+  pub both_good : (y : Tree) (more : List Token) → IsGood L e n l text y more → (o : Outcome) → Explains (M y) f n l more o → Explains (Both L M) f n l text o
   both_good y more g (Good z rest) h = record {
     front = g.front ++ h.front;
     split = g.split ∙ (ap (λ w. g.front ++ w) h.split ∙ sym (append_assoc g.front h.front rest));
@@ -262,7 +263,7 @@ safe_first false e cheap (inl c) = inl (e, c)
 safe_first {a = a} b e cheap (inr s) = inr (record { p = a ∷ s.p; q = s.q; split = ap (λ z. a ∷ z) s.split; viable = viable_first s.viable; closed = s.closed })
 
 pub first_answers : (a : Token) (L : Language) (f n l : ℕ) (text : List Token) → ((opens a ≡ true) → Viable L n l []) → (o : Outcome) →
-    Answers L f n l text o → Answers (First a L) f n l (a ∷ text) o
+    Explains L f n l text o → Explains (First a L) f n l (a ∷ text) o
 first_answers a L f n l text cheap (Good y rest) g = record {
   front = a ∷ g.front;
   split = ap (λ z. a ∷ z) g.split;
@@ -331,7 +332,7 @@ safe_inside t (inl c) = inl c
 safe_inside t (inr s) = inr (record { p = s.p; q = s.q; split = s.split; viable = viable_inside t s.viable; closed = s.closed })
 
 pub inside_answers : (b : Bound) (L : Language) (f n l m k : ℕ) (text : List Token) → Takes b n l m k → (o : Outcome) →
-    Answers L f m k text o → Answers (Inside b L) f n l text o
+    Explains L f m k text o → Explains (Inside b L) f n l text o
 inside_answers b L f n l m' k' text t (Good y rest) g = record {
   front = g.front;
   split = g.split;

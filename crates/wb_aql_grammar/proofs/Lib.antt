@@ -7,6 +7,7 @@ pub mod Agreement
 pub mod Whole
 pub mod Nodes
 pub mod Steps
+pub mod Total
 pub mod Unique
 pub mod Trees
 pub mod Weights

@@ -5,7 +5,8 @@ use Rattle.wb_aql_grammar.specs.Tree.{Tree, Trees, Arguments, no_trees, no_argum
 use Rattle.wb_aql_grammar.specs.Tree as t
 use Rattle.wb_aql_grammar.specs.Grammar.{Phrase, Expr, Implies, Or, Xor, And, Neg, Cmp, Sum, Term, Unary, Post, Atom, ImpliesMore, OrMore, XorMore, AndMore, CmpMore, SumMore, TermMore, PostMore, Named, Featured, CallArguments, Argument, ArgumentMore, Elements, Element, ElementMore, Rest, done, sign, name, phrase, opening, last, Line, Reads, reads_done, reads_sign, reads_name, reads_phrase, reads_opening}
 use Rattle.wb_aql_grammar.specs.Grammar as g
-use Rattle.wb_aql_grammar.specs.Runs.{head, next, pick, expr_next, neg_next, unary_next, atom_next, implies_next, or_next, xor_next, and_next, cmp_next, sum_next, term_next, post_next, featured_next, named_next, arguments_next, argument_more_next, elements_next, element_more_next, argument_next, class_or_literal, class_line, expression_line}
+use Rattle.wb_aql_grammar.specs.invariants.Runs.{next, pick, expr_next, neg_next, unary_next, atom_next, implies_next, or_next, xor_next, and_next, cmp_next, sum_next, term_next, post_next, featured_next, named_next, arguments_next, argument_more_next, elements_next, element_more_next, argument_next, class_or_literal, class_line, expression_line}
+use Rattle.wb_aql_grammar.specs.Places.{head}
 use Rattle.wb_aql_tokens.specs.declared.token.Token.{Token}
 use Rattle.wb_aql_tokens.specs.declared.token.Token.TheVariants.{Sign, Name, Integer, Quoted}
 use Rattle.wb_aql_tokens.specs.declared.token.Sign.TheVariants as s

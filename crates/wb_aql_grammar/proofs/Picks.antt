@@ -4,9 +4,10 @@ use Rattle.std.specs.Prelude.{Option, Some, None, ◌⊎◌, ◌↔◌, Bool, tr
 use Rattle.wb_aql_grammar.specs.Tree.{Tree, Trees, Arguments, no_trees, no_arguments}
 use Rattle.wb_aql_grammar.specs.Tree as t
 use Rattle.wb_aql_grammar.specs.Grammar.{Expr, Implies, Neg, Cmp, CmpMore, Sum, Unary, Post, Atom, PostMore, Named, Featured, CallArguments, Argument, ArgumentMore, Elements, Element, ElementMore, Rest, done, sign, phrase, last}
-use Rattle.wb_aql_grammar.specs.Runs.{head, Good, Wrong, pick, expr_next, neg_next, unary_next, named_next, featured_next, atom_next, arguments_next, argument_more_next, argument_next, elements_next, element_more_next, call, Runs}
-use Rattle.wb_aql_grammar.specs.Runs as run
-use Rattle.wb_aql_grammar.specs.Reading.{operand, whole, more, let_line, if_line, parentheses_line, braces, literal_rest, Names}
+use Rattle.wb_aql_grammar.specs.invariants.Runs.{Good, Wrong, pick, expr_next, neg_next, unary_next, named_next, featured_next, atom_next, arguments_next, argument_more_next, argument_next, elements_next, element_more_next, call, Runs}
+use Rattle.wb_aql_grammar.specs.Places.{head}
+use Rattle.wb_aql_grammar.specs.invariants.Runs as run
+use Rattle.wb_aql_grammar.specs.invariants.Reading.{operand, whole, more, let_line, if_line, parentheses_line, braces, literal_rest, IsCalled}
 use Rattle.wb_aql_grammar.specs.declared.level.Level.{Level}
 use Rattle.wb_aql_grammar.specs.declared.level.Level.TheVariants as v
 use Rattle.wb_aql_grammar.specs.declared.expr.CallKind.{CallKind}
@@ -96,7 +97,7 @@ pub takes_feature : {n l : ℕ} (x : Tree) (w : List ℕ) (text : List Token) �
     Leads n l (last (PostMore (t.Feature x w))) text (last (Featured x w)) text
 takes_feature x w text ne o d = line (Featured x w) _ o (ap Some (no_open x w (head text) ne)) d
 
-pub names_dot : (b : Bool) (text : List Token) → IsTrue b ↔ (head text ≡ Some (Sign s.Open)) → Names b d.Dot text
+pub names_dot : (b : Bool) (text : List Token) → IsTrue b ↔ (head text ≡ Some (Sign s.Open)) → IsCalled b d.Dot text
 names_dot true text f n l x w o e = takes_call x w text (f.0 refl) o e
 names_dot false text f n l x w o e = takes_feature x w text (λ h. not_both (f.1 h)) o e
 

@@ -4,9 +4,9 @@ use Rattle.std.specs.Prelude.{◌<◌}
 use Rattle.wb_aql_grammar.specs.Tree.{Tree}
 use Rattle.wb_aql_grammar.specs.Tree as t
 use Rattle.wb_aql_grammar.specs.Grammar.{Bound, Rest, done}
-use Rattle.wb_aql_grammar.specs.Runs.{Outcome, Good, Wrong, Deep, Runs}
-use Rattle.wb_aql_grammar.specs.Runs as run
-use Rattle.wb_aql_grammar.specs.Reading.{ReadsSign, ReadsName, Enters}
+use Rattle.wb_aql_grammar.specs.invariants.Runs.{Outcome, Good, Wrong, Deep, Runs}
+use Rattle.wb_aql_grammar.specs.invariants.Runs as run
+use Rattle.wb_aql_grammar.specs.invariants.Reading.{ReadsSign, ReadsName, Enters}
 use Rattle.wb_aql_tokens.specs.declared.token.Token.{Token}
 use Rattle.wb_aql_tokens.specs.declared.token.Token.TheVariants.{Name}
 

@@ -5,9 +5,10 @@ use Rattle.std.specs.Borrow.{Bor}
 use Rattle.wb_aql_grammar.specs.declared.expr.Node.{Node}
 use Rattle.wb_aql_grammar.specs.Tree.{Tree}
 use Rattle.wb_aql_grammar.specs.Grammar.{Phrase, CmpMore, PostMore, Bound, openings, lambdas, Rest, done, sign, name, phrase, opening, last, takes_opening, takes_lambda}
-use Rattle.wb_aql_grammar.specs.Runs.{head, Outcome, Good, Wrong, Deep, IsStop, pick, next, chain, compare, cmp_next, post_next, Runs}
-use Rattle.wb_aql_grammar.specs.Runs as run
-use Rattle.wb_aql_grammar.specs.Reading.{Stops, ReadsSign, ReadsName, Enters, ReadsPhrase, Comes, operand, more, GoesOn, Ends, Compares, NoComparison, Links, NoLink}
+use Rattle.wb_aql_grammar.specs.invariants.Runs.{Outcome, Good, Wrong, Deep, IsUnread, pick, next, chain, compare, cmp_next, post_next, Runs}
+use Rattle.wb_aql_grammar.specs.Places.{head}
+use Rattle.wb_aql_grammar.specs.invariants.Runs as run
+use Rattle.wb_aql_grammar.specs.invariants.Reading.{IsOutcome, ReadsSign, ReadsName, Enters, ReadsPhrase, Comes, operand, more, GoesOn, Ends, Compares, NoComparison, Links, NoLink}
 use Rattle.wb_aql_grammar.specs.Tree as t
 use Rattle.wb_aql_grammar.specs.declared.level.Level.{Level}
 use Rattle.wb_aql_grammar.specs.declared.level.Level.TheVariants as v
@@ -18,8 +19,8 @@ use Rattle.wb_aql_tokens.specs.declared.token.Sign.{Sign as SignName}
 use Rattle.wb_aql_tokens.specs.declared.token.Sign.TheVariants as s
 use Rattle.wb_aql_tokens.specs.declared.token.Token.{Token}
 use Rattle.wb_aql_tokens.specs.declared.token.Token.TheVariants.{Sign, Name}
-use Rattle.wb_aql_grammar.specs.declared.stop.Stop.{Stop}
-use Rattle.wb_aql_grammar.specs.declared.stop.Stop.TheVariants as e
+use Rattle.wb_aql_grammar.specs.declared.unread.Unread.{Unread}
+use Rattle.wb_aql_grammar.specs.declared.unread.Unread.TheVariants as e
 
 pub step_sign : (a : Token) (text rest : List Token) → text ≡ a ∷ rest → ReadsSign a text rest
 step_sign a text rest e n l r o d = subst (λ z. Runs n l (sign a r) z o) (sym e) (run.runs_sign d)
@@ -57,9 +58,9 @@ no_lambda_left a text rest n l e z i r = subst (λ t. Runs n l (opening lambdas 
 
 -- ---- errors
 
-pub map_stops : {R S : Outcome → Type 0} (e : Stop) → ((o : Outcome) → IsStop o → R o → S o) → Stops R e → Stops S e
-map_stops (e.Wrong rest) f d = f _ run.wrong_stops d
-map_stops (e.Deep rest) f d = f _ run.deep_stops d
+pub map_stops : {R S : Outcome → Type 0} (e : Unread) → ((o : Outcome) → IsUnread o → R o → S o) → IsOutcome R e → IsOutcome S e
+map_stops (e.Wrong rest) f d = f _ run.wrong_unread d
+map_stops (e.Deep rest) f d = f _ run.deep_unread d
 map_stops e.NoMemory f d = tt
 
 -- ---- a phrase of its own, and within a line
@@ -68,24 +69,24 @@ pub join : {n l : ℕ} {p : Phrase} {text rest : List Token} {x : Tree} → Runs
 join (run.runs_phrase e d1 run.runs_done) r o d2 = run.runs_phrase e d1 d2
 join (run.runs_phrase_stop e d s) r o d2 = elim s [ ]
 
-pub join_stop : {n l : ℕ} {p : Phrase} {text : List Token} (r : Tree → Rest) (o : Outcome) → IsStop o → Runs n l (last p) text o → Runs n l (phrase p r) text o
+pub join_stop : {n l : ℕ} {p : Phrase} {text : List Token} (r : Tree → Rest) (o : Outcome) → IsUnread o → Runs n l (last p) text o → Runs n l (phrase p r) text o
 join_stop r o s (run.runs_phrase e d1 run.runs_done) = elim s [ ]
 join_stop r o s (run.runs_phrase_stop e d t) = run.runs_phrase_stop e d t
 join_stop r o s (run.runs_no_phrase e) = run.runs_no_phrase e
 
 pub line : {n l : ℕ} (p : Phrase) (r : Rest) {text : List Token} (o : Outcome) → pick p text ≡ Some r → Runs n l r text o → Runs n l (last p) text o
 line p r (Good y rest) e d = run.runs_phrase e d run.runs_done
-line p r (Wrong rest) e d = run.runs_phrase_stop e d run.wrong_stops
-line p r (Deep rest) e d = run.runs_phrase_stop e d run.deep_stops
+line p r (Wrong rest) e d = run.runs_phrase_stop e d run.wrong_unread
+line p r (Deep rest) e d = run.runs_phrase_stop e d run.deep_unread
 
 -- an opening that ends its line
 pub enclose : {b : Bound} {a : Token} {text rest : List Token} {n l m k : ℕ} → Enters b a text rest n l m k → (i : Rest) (o : Outcome) → Runs m k i rest o → Runs n l (opening b a i done) text o
 enclose enters i (Good y more) d = (enters i done).1 y more (Good y more) d run.runs_done
-enclose enters i (Wrong more) d = (enters i done).0 (Wrong more) run.wrong_stops d
-enclose enters i (Deep more) d = (enters i done).0 (Deep more) run.deep_stops d
+enclose enters i (Wrong more) d = (enters i done).0 (Wrong more) run.wrong_unread d
+enclose enters i (Deep more) d = (enters i done).0 (Deep more) run.deep_unread d
 
 -- what comes of a part is what comes of the whole
-pub comes : (n l m k : ℕ) (r s : Rest) (text rest : List Token) (result : Result (Node × Bor (List Token)) Stop) → ((o : Outcome) → Runs n l r rest o → Runs m k s text o) → Comes n l r rest result → Comes m k s text result
+pub comes : (n l m k : ℕ) (r s : Rest) (text rest : List Token) (result : Result (Node × Bor (List Token)) Unread) → ((o : Outcome) → Runs n l r rest o → Runs m k s text o) → Comes n l r rest result → Comes m k s text result
 comes n l m k r s text rest (Ok u) f d = f _ d
 comes n l m k r s text rest (Err x) f d = map_stops x (λ o t d. f o d) d
 

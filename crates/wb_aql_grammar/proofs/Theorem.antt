@@ -3,17 +3,18 @@ use Rattle.std.proofs.Common.{◌≡◌, ℕ, ◌≤◌, List, [], ◌∷◌, �
 use Rattle.std.specs.Prelude.{Some, None}
 use Rattle.wb_aql_grammar.specs.Tree.{Tree, Arguments}
 use Rattle.wb_aql_grammar.specs.Grammar.{Phrase, Argument, Bound, Rest, done, sign, name, phrase, opening, Line, Takes, Reads, reads_done, reads_sign, reads_name, reads_phrase, reads_opening}
-use Rattle.wb_aql_grammar.specs.Runs.{head, Outcome, Good, Wrong, Deep, next, pick}
+use Rattle.wb_aql_grammar.specs.invariants.Runs.{Outcome, Good, Wrong, Deep, next, pick}
+use Rattle.wb_aql_grammar.specs.Places.{head}
 use Rattle.wb_aql_tokens.specs.declared.token.Token.{Token}
 use Rattle.wb_aql_tokens.specs.declared.token.Token.TheVariants.{Name}
 use Rattle.wb_aql_grammar.specs.declared.expr.CallKind.{CallKind}
 use Rattle.wb_aql_grammar.proofs.Ranks.{rank, level}
 use Rattle.wb_aql_grammar.proofs.Local.{front_of, Plain, choice, pick_line, some_same, none_some}
-use Rattle.wb_aql_grammar.proofs.Languages.{Language, Safe, IsGood, Answers, head_append, along, Both, both, both_wrong, both_deep, both_good, First, first, first_answers, nothing, Inside, taken, inside_answers, viable_inside, too_deep}
+use Rattle.wb_aql_grammar.proofs.Languages.{Language, Safe, IsGood, Explains, head_append, along, Both, both, both_wrong, both_deep, both_good, First, first, first_answers, nothing, Inside, taken, inside_answers, viable_inside, too_deep}
 use Rattle.wb_aql_grammar.proofs.Agreement.{rest_of, same_argument}
 use Rattle.wb_aql_grammar.proofs.Fits.{Lang, Cheap, Fits, fits, blocked, alive}
-use Rattle.wb_aql_grammar.specs.Runs as run
-use Rattle.wb_aql_grammar.specs.Runs.{Runs, IsStop}
+use Rattle.wb_aql_grammar.specs.invariants.Runs as run
+use Rattle.wb_aql_grammar.specs.invariants.Runs.{Runs, IsUnread}
 
 -- a phrase by one of its lines
 abbrev pub Phrases : Phrase → Language
@@ -45,7 +46,7 @@ agree n l (Argument d x v xs) line text o run e = agree_argument n l d x v xs li
 agree n l p line text o run e = agree_plain p line text o tt e
 
 picked : (n l : ℕ) (p : Phrase) (line : Rest) (text : List Token) (o : Outcome) → Line p line → Agree p line text o →
-    Answers (Lang line) (level p) n l text o → Answers (Phrases p) (level p) n l text o
+    Explains (Lang line) (level p) n l text o → Explains (Phrases p) (level p) n l text o
 picked n l p line text (Good y rest) is agrees g = record {
   front = g.front;
   split = g.split;
@@ -149,7 +150,7 @@ safe_name {v = v} (inr s) = inr (record {
   viable = record { more = s.viable.more; tree = s.viable.tree; reads = λ tail. reads_name (s.viable.reads tail) };
 })
 
-name_answers : (v : List ℕ) (r : List ℕ → Rest) (f n l : ℕ) (text : List Token) (o : Outcome) → Answers (Lang (r v)) f n l text o → Answers (Lang (name r)) f n l (Name v ∷ text) o
+name_answers : (v : List ℕ) (r : List ℕ → Rest) (f n l : ℕ) (text : List Token) (o : Outcome) → Explains (Lang (r v)) f n l text o → Explains (Lang (name r)) f n l (Name v ∷ text) o
 name_answers v r f n l text (Good y rest) g = record {
   front = Name v ∷ g.front;
   split = ap (λ z. Name v ∷ z) g.split;
@@ -181,15 +182,15 @@ module _ (p : Phrase) (r : Tree → Rest) (f n l : ℕ) (text : List Token) (fit
   phrase_stops : (y : Tree) (m k : ℕ) (mid behind : List Token) (x : Tree) → Reads m k (r y) mid behind x → level p ≤ rank (head mid) → f ≤ rank (head behind)
   phrase_stops y m k mid behind x d h = blocked (r y) f (level p) mid behind (fit y).1 (front_of d) h
 
-  phrase_good : (y : Tree) (more : List Token) (o : Outcome) → IsGood (Phrases p) (level p) n l text y more → Answers (Lang (r y)) f n l more o → Answers (Lang (phrase p r)) f n l text o
+  phrase_good : (y : Tree) (more : List Token) (o : Outcome) → IsGood (Phrases p) (level p) n l text y more → Explains (Lang (r y)) f n l more o → Explains (Lang (phrase p r)) f n l text o
   phrase_good y more o g h = along (Both (Phrases p) (λ y. Lang (r y))) (Lang (phrase p r)) f n l text o to_phrase from_phrase
       (both_good (Phrases p) (λ y. Lang (r y)) (level p) f n l text (λ y. (fit y).0) phrase_stops y more g o h)
 
-  phrase_stop : (o : Outcome) → IsStop o → Answers (Phrases p) (level p) n l text o → Answers (Lang (phrase p r)) f n l text o
+  phrase_stop : (o : Outcome) → IsUnread o → Explains (Phrases p) (level p) n l text o → Explains (Lang (phrase p r)) f n l text o
   phrase_stop (Good y rest) stop g = elim stop [ ]
-  phrase_stop (Wrong rest) run.wrong_stops g = along (Both (Phrases p) (λ y. Lang (r y))) (Lang (phrase p r)) f n l text (Wrong rest) to_phrase from_phrase
+  phrase_stop (Wrong rest) run.wrong_unread g = along (Both (Phrases p) (λ y. Lang (r y))) (Lang (phrase p r)) f n l text (Wrong rest) to_phrase from_phrase
       (both_wrong (Phrases p) (λ y. Lang (r y)) (level p) f n l text (λ y. (fit y).0) phrase_stops rest g)
-  phrase_stop (Deep rest) run.deep_stops g = along (Both (Phrases p) (λ y. Lang (r y))) (Lang (phrase p r)) f n l text (Deep rest) to_phrase from_phrase
+  phrase_stop (Deep rest) run.deep_unread g = along (Both (Phrases p) (λ y. Lang (r y))) (Lang (phrase p r)) f n l text (Deep rest) to_phrase from_phrase
       (both_deep (Phrases p) (λ y. Lang (r y)) (level p) f n l text (λ y. (fit y).0) phrase_stops rest g)
 
 module _ (bound : Bound) (a : Token) (i : Rest) (r : Tree → Rest) (f n l : ℕ) (text : List Token) (fit : Fits f (opening bound a i r)) where
@@ -197,20 +198,20 @@ module _ (bound : Bound) (a : Token) (i : Rest) (r : Tree → Rest) (f n l : ℕ
   opening_stops y m k mid behind x d h = blocked (r y) f fit.1 mid behind (fit.4 y).1 (front_of d) h
 
   opening_good : (y : Tree) (more : List Token) (o : Outcome) → IsGood (First a (Inside bound (Lang i))) fit.1 n l text y more →
-      Answers (Lang (r y)) f n l more o → Answers (Lang (opening bound a i r)) f n l text o
+      Explains (Lang (r y)) f n l more o → Explains (Lang (opening bound a i r)) f n l text o
   opening_good y more o g h = along (Both (First a (Inside bound (Lang i))) (λ y. Lang (r y))) (Lang (opening bound a i r)) f n l text o to_opening from_opening
       (both_good (First a (Inside bound (Lang i))) (λ y. Lang (r y)) fit.1 f n l text (λ y. (fit.4 y).0) opening_stops y more g o h)
 
-  opening_stop : (o : Outcome) → IsStop o → Answers (First a (Inside bound (Lang i))) fit.1 n l text o → Answers (Lang (opening bound a i r)) f n l text o
+  opening_stop : (o : Outcome) → IsUnread o → Explains (First a (Inside bound (Lang i))) fit.1 n l text o → Explains (Lang (opening bound a i r)) f n l text o
   opening_stop (Good y rest) stop g = elim stop [ ]
-  opening_stop (Wrong rest) run.wrong_stops g = along (Both (First a (Inside bound (Lang i))) (λ y. Lang (r y))) (Lang (opening bound a i r)) f n l text (Wrong rest) to_opening from_opening
+  opening_stop (Wrong rest) run.wrong_unread g = along (Both (First a (Inside bound (Lang i))) (λ y. Lang (r y))) (Lang (opening bound a i r)) f n l text (Wrong rest) to_opening from_opening
       (both_wrong (First a (Inside bound (Lang i))) (λ y. Lang (r y)) fit.1 f n l text (λ y. (fit.4 y).0) opening_stops rest g)
-  opening_stop (Deep rest) run.deep_stops g = along (Both (First a (Inside bound (Lang i))) (λ y. Lang (r y))) (Lang (opening bound a i r)) f n l text (Deep rest) to_opening from_opening
+  opening_stop (Deep rest) run.deep_unread g = along (Both (First a (Inside bound (Lang i))) (λ y. Lang (r y))) (Lang (opening bound a i r)) f n l text (Deep rest) to_opening from_opening
       (both_deep (First a (Inside bound (Lang i))) (λ y. Lang (r y)) fit.1 f n l text (λ y. (fit.4 y).0) opening_stops rest g)
 
 -- an opening, and what comes of what stands inside it
 opened_answers : (bound : Bound) (a : Token) (i : Rest) (e n l m k : ℕ) (text : List Token) (o : Outcome) → Takes bound n l m k → Cheap i →
-    Answers (Lang i) e m k text o → Answers (First a (Inside bound (Lang i))) e n l (a ∷ text) o
+    Explains (Lang i) e m k text o → Explains (First a (Inside bound (Lang i))) e n l (a ∷ text) o
 opened_answers bound a i e n l m k text o t cheap h =
     first_answers a (Inside bound (Lang i)) e n l text (λ z. viable_inside t (cheap m k)) o (inside_answers bound (Lang i) e n l m k text t o h)
 
@@ -222,7 +223,7 @@ no_line p text e m k more behind x h u = elim (choice tt u.1 more behind (front_
   | inr j ↦ j
 ]
 
-pub answers : {n l : ℕ} {r : Rest} {text : List Token} {o : Outcome} → Runs n l r text o → (f : ℕ) → Fits f r → Answers (Lang r) f n l text o
+pub answers : {n l : ℕ} {r : Rest} {text : List Token} {o : Outcome} → Runs n l r text o → (f : ℕ) → Fits f r → Explains (Lang r) f n l text o
 answers run.runs_done f fit = record { front = []; split = refl; reads = λ m k more i j. reads_done; only = λ m k more behind x e d. inl (done_same d) }
 answers {n = n} {l = l} (run.runs_sign {a = a} {r = rest} {text = text} {o = o} d) f fit =
     along (First a (Lang rest)) (Lang (sign a rest)) f n l (a ∷ text) o to_sign from_sign (first_answers a (Lang rest) f n l text (λ e. fit.0 e n l) o (answers d f fit.1))
@@ -252,4 +253,4 @@ answers {n = n} {l = l} (run.runs_opening_stop {bound = bound} {m = m} {k = k} {
 answers {n = n} {l = l} (run.runs_no_opening {bound = bound} {a = a} {i = i} {r = rest} ne) f fit =
     nothing (alive (opening bound a i rest) f fit n l) (λ m k more behind x e d. absurd (ne (sym e ∙ opening_head d)))
 answers {n = n} {l = l} (run.runs_too_deep {bound = bound} {a = a} {i = i} {r = rest} {text = text} spent) f fit =
-    opening_stop bound a i rest f n l (a ∷ text) fit (Deep (a ∷ text)) run.deep_stops (too_deep fit.0 fit.3 spent)
+    opening_stop bound a i rest f n l (a ∷ text) fit (Deep (a ∷ text)) run.deep_unread (too_deep fit.0 fit.3 spent)

@@ -3,21 +3,22 @@ use Rattle.std.proofs.Common.{◌≡◌, ℕ, suc, ◌≤◌, List, [], ◌∷�
 use Rattle.std.specs.Prelude.{None, length, take, drop, ◌+◌}
 use Rattle.wb_aql_grammar.specs.Tree.{Tree}
 use Rattle.wb_aql_grammar.specs.Grammar.{Expr, last, reads_done}
-use Rattle.wb_aql_grammar.specs.Runs.{head, Outcome, Good, Wrong, Deep}
+use Rattle.wb_aql_grammar.specs.invariants.Runs.{Outcome, Good, Wrong, Deep}
+use Rattle.wb_aql_grammar.specs.Places.{head}
 use Rattle.wb_aql_grammar.specs.Places.{opens}
 use Rattle.wb_aql_tokens.specs.declared.token.Token.{Token}
 use Rattle.wb_aql_grammar.proofs.Ranks.{rank}
 use Rattle.wb_aql_grammar.proofs.Local.{not_both, none_some}
-use Rattle.wb_aql_grammar.proofs.Languages.{Viable, Closed, Safe, Answers}
+use Rattle.wb_aql_grammar.proofs.Languages.{Viable, Closed, Safe, Explains}
 use Rattle.wb_aql_grammar.proofs.Fits.{Lang, Fits}
-use Rattle.wb_aql_grammar.specs.Runs.{Runs}
+use Rattle.wb_aql_grammar.specs.invariants.Runs.{Runs}
 use Rattle.std.proofs.lemmas.List.{length-append}
 use Rattle.std.proofs.Math.Seq.{take-append_seam, drop-append_seam}
 use Rattle.wb_aql_grammar.specs.Grammar.{Spells}
 use Rattle.wb_aql_grammar.specs.Places.{Begins, KeepsBounds, IsSyntax, IsTooDeep}
 use Rattle.wb_aql_grammar.proofs.Theorem.{answers}
 
-whole : {n l : ℕ} {tokens : List Token} {o : Outcome} → Runs n l (last Expr) tokens o → Answers (Lang (last Expr)) 2 n l tokens o
+whole : {n l : ℕ} {tokens : List Token} {o : Outcome} → Runs n l (last Expr) tokens o → Explains (Lang (last Expr)) 2 n l tokens o
 whole d = answers d 2 (fits_expr)
   where
     fits_expr : Fits 2 (last Expr)

@@ -2,6 +2,7 @@
 use Rattle.std.proofs.Common.{◌≡◌, ℕ, List, [], ◌∷◌, ◌++◌, refl, ap, subst, true}
 use Rattle.std.specs.Prelude.{codes}
 use Rattle.wb_aql_tokens.specs.Lexes.{Lexes, lexes_end, is_expression_name, is_reserved, reserved, word_of}
+use Rattle.wb_base.specs.Names.{is_name}
 use Rattle.wb_aql_tokens.specs.Apart.{ends_before}
 use Rattle.wb_aql_tokens.specs.declared.token.Token.{Token}
 use Rattle.wb_aql_tokens.specs.declared.token.Token.TheVariants.{Name, Sign}
@@ -64,7 +65,7 @@ one_name offset name named = subst (λ z. Lexes offset z (Name name ∷ []) (off
     (spelled_first offset (Name name) name [] [] [] (refl, named) named refl lexes_end)
 
 is_self : is_expression_name (codes "self") ≡ true
-unfolding is_expression_name is_reserved reserved word_of
+unfolding is_expression_name is_name is_reserved reserved word_of
 is_self = refl
 
 before_name : (name : List ℕ) → ends_before (Sign s.Dot) name ≡ true

@@ -1,5 +1,5 @@
 -- Texts: the tree that a text spells, and the byte at which a text that spells none is refused.
-use Rattle.std.specs.Prelude.{◌≡◌, ℕ, List, Result, MatchResult, length, slice_index_or}
+use Rattle.std.specs.Prelude.{◌≡◌, ℕ, List, Option, Some, None, length, slice_index_or}
 use Rattle.wb_aql_grammar.specs.Tree.{Tree}
 use Rattle.wb_aql_grammar.specs.Grammar.{Spells}
 use Rattle.wb_aql_grammar.specs.Places.{IsSyntax, IsTooDeep}
@@ -39,6 +39,8 @@ Refuses text (r.Syntax offset) = IsOffset (IsSyntax 64 4) text offset
 Refuses text (r.TooDeep offset) = IsOffset (IsTooDeep 64 4) text offset
 Refuses text r.NoMemory = Unit {0}
 
--- the answer is this tree, or want of memory
-abbrev pub TakesText : Tree → Result Tree ParseRefusal → Type 0
-TakesText x result = MatchResult result (λ found. found ≡ x) (λ e. e ≡ r.NoMemory)
+-- the refusal that a text has; want of memory is none
+abbrev pub refusal_of : ParseRefusal → Option ParseRefusal
+refusal_of (r.Syntax offset) = Some (r.Syntax offset)
+refusal_of (r.TooDeep offset) = Some (r.TooDeep offset)
+refusal_of r.NoMemory = None

@@ -1,9 +1,7 @@
-pub mod Answers
 pub mod Codes
 pub mod Expressions
-pub mod Reading
 pub mod Places
-pub mod Runs
 pub mod Grammar
 pub mod Tree
 pub mod View
+pub mod invariants

@@ -1,11 +1,15 @@
 -- The places of a text that is refused.
-use Rattle.std.specs.Prelude.{ℕ, suc, List, [], ◌∷◌, ◌++◌, ◌≡◌, ◌≤◌, ◌<◌, length, take, drop, Bool, true, false}
+use Rattle.std.specs.Prelude.{ℕ, suc, List, [], ◌∷◌, ◌++◌, ◌≡◌, ◌≤◌, ◌<◌, length, take, drop, Bool, true, false, Option, Some, None}
 use Rattle.wb_aql_grammar.specs.Tree.{Tree}
 use Rattle.wb_aql_grammar.specs.Grammar.{Spells}
-use Rattle.wb_aql_grammar.specs.Runs.{head}
 use Rattle.wb_aql_tokens.specs.declared.token.Token.{Token}
 use Rattle.wb_aql_tokens.specs.declared.token.Token.TheVariants.{Sign}
 use Rattle.wb_aql_tokens.specs.declared.token.Sign.TheVariants as s
+
+-- the next token; none at the end
+abbrev pub head : List Token → Option Token
+head [] = None
+head (a ∷ text) = Some a
 
 -- does the token stand for an opening somewhere in the grammar?
 abbrev pub opens : Token → Bool

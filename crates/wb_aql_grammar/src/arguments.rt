@@ -1,7 +1,8 @@
 ghost use Rattle.std.specs.Prelude.{◌≡◌, ℕ, List, IsTrue, ◌↔◌, ◌⊎◌, Some};
 ghost use Rattle.wb_aql_grammar.specs.Tree.{Tree, Arguments};
-ghost use Rattle.wb_aql_grammar.specs.Runs.{head, argument_next};
-ghost use Rattle.wb_aql_grammar.specs.Reading.{line_of};
+ghost use Rattle.wb_aql_grammar.specs.invariants.Runs.{argument_next};
+ghost use Rattle.wb_aql_grammar.specs.Places.{head};
+ghost use Rattle.wb_aql_grammar.specs.invariants.Reading.{line_of};
 ghost use Rattle.wb_aql_grammar.specs.declared.expr.CallKind.{CallKind};
 ghost use Rattle.wb_aql_tokens.specs.declared.token.Token.TheVariants.{Sign as sign_token};
 
@@ -9,7 +10,7 @@ use crate::reading::is_next;
 use wb_aql_tokens::{Sign, Token};
 
 /// What an argument begins as.
-#[derive(Clone, Copy, Debug, PartialEq, Eq)]
+#[derive(Clone, Copy)]
 pub enum Shape {
     /// `name '|'`
     Lambda,

@@ -1,14 +1,14 @@
 ghost use Rattle.std.specs.Prelude.{◌≡◌, ◌∷◌, ℕ};
 ghost use Rattle.wb_aql_grammar.specs.View.{tree_of};
 ghost use Rattle.wb_aql_grammar.specs.Grammar.{Atom, Named, last};
-ghost use Rattle.wb_aql_grammar.specs.Reading.{Comes, ComesElements, braces, if_inside, literal_rest};
+ghost use Rattle.wb_aql_grammar.specs.invariants.Reading.{Comes, ComesElements, braces, if_inside, literal_rest};
 ghost use Rattle.wb_aql_tokens.specs.declared.token.Token.TheVariants.{Sign as sign_token};
 
 use crate::arguments::is_closing;
 use crate::expr::{CollectionKind, Constant, Node};
 use crate::parser::{Read, parse_ended, parse_expression};
 use crate::reading::{Room, behind_sign, enter, expect, expect_name, first_token};
-use crate::stop::Stop;
+use crate::unread::Unread;
 use sqlite_items::Items;
 use std::alloc::Global;
 use wb_aql_tokens::{Sign, Token};
@@ -24,8 +24,8 @@ pub fn parse_atom<'a>(alloc: Global, tokens: &'a [Token], room: Room) -> Read<'a
         Some((Token::Quoted(text), rest)) => Ok((Node::text(text.copy(alloc)?), rest)),
         Some((Token::Name(name), rest)) => parse_named(alloc, name.copy(alloc)?, rest),
         Some((Token::Sign(sign), rest)) => parse_marked(alloc, *sign, tokens, rest, room),
-        Some((Token::Bad, _)) => Err(Stop::Wrong(tokens)),
-        None => Err(Stop::Wrong(tokens)),
+        Some((Token::Bad, _)) => Err(Unread::Wrong(tokens)),
+        None => Err(Unread::Wrong(tokens)),
     }
 }
 
@@ -55,7 +55,7 @@ fn parse_marked<'a>(
         }
         Sign::Sequence => parse_collection(alloc, CollectionKind::Sequence, behind, room),
         Sign::OrderedSet => parse_collection(alloc, CollectionKind::OrderedSet, behind, room),
-        _ => Err(Stop::Wrong(tokens)),
+        _ => Err(Unread::Wrong(tokens)),
     }
 }
 

@@ -6,26 +6,26 @@ use sqlite_items::{Boxed, Items};
 use std::alloc::{AllocError, Global};
 use wb_base::Text;
 
-#[derive(Clone, Copy, Debug, PartialEq, Eq)]
+#[derive(Clone, Copy)]
 pub enum Constant {
     Null,
     True,
     False,
 }
 
-#[derive(Clone, Copy, Debug, PartialEq, Eq)]
+#[derive(Clone, Copy)]
 pub enum CollectionKind {
     Sequence,
     OrderedSet,
 }
 
-#[derive(Clone, Copy, Debug, PartialEq, Eq)]
+#[derive(Clone, Copy)]
 pub enum Unary {
     Not,
     Negate,
 }
 
-#[derive(Clone, Copy, Debug, PartialEq, Eq)]
+#[derive(Clone, Copy)]
 pub enum Binary {
     Implies,
     Or,
@@ -44,7 +44,7 @@ pub enum Binary {
 }
 
 /// Is a service called by `.` or by `->`?
-#[derive(Clone, Copy, Debug, PartialEq, Eq)]
+#[derive(Clone, Copy)]
 pub enum CallKind {
     Dot,
     Arrow,
@@ -113,12 +113,21 @@ impl Drop for Node {
 }
 
 /// An argument of a service.
-#[derive(Drop)]
 pub enum Argument<E> {
     Lambda(Text, E),
     /// A package and a class of it.
     Type(Text, Text),
     Expression(E),
+}
+
+impl<E: Drop> Drop for Argument<E> {
+    fn drop(self) {
+        match self {
+            Argument::Lambda(_name, _body) => {}
+            Argument::Type(_package, _class) => {}
+            Argument::Expression(_value) => {}
+        }
+    }
 }
 
 impl Node {

@@ -10,9 +10,14 @@ use std::marker::Model;
 use wb_base::Text;
 
 /// An expression that some text spells, with at most 64 openings and 4 lambdas open at once.
-#[derive(Drop)]
 pub struct Expr {
     node: Node,
+}
+
+impl Drop for Expr {
+    fn drop(self) {
+        let Expr { node: _node } = self;
+    }
 }
 
 impl Model for Expr {

@@ -2,8 +2,9 @@ ghost use Rattle.std.specs.Prelude.{◌≡◌, ◌<◌, length, Some, IfSome, Ma
 ghost use Rattle.wb_aql_grammar.specs.Tree.{Tree};
 ghost use Rattle.wb_aql_grammar.specs.Tree as t;
 ghost use Rattle.wb_aql_grammar.specs.Grammar.{done};
-ghost use Rattle.wb_aql_grammar.specs.Runs.{head, next, chain, cmp_next, compare};
-ghost use Rattle.wb_aql_grammar.specs.Reading.{operand, more, GoesOn, Ends, Compares, NoComparison, Links, NoLink};
+ghost use Rattle.wb_aql_grammar.specs.invariants.Runs.{next, chain, cmp_next, compare};
+ghost use Rattle.wb_aql_grammar.specs.Places.{head};
+ghost use Rattle.wb_aql_grammar.specs.invariants.Reading.{operand, more, GoesOn, Ends, Compares, NoComparison, Links, NoLink};
 ghost use Rattle.wb_aql_tokens.specs.declared.token.Token.TheVariants.{Sign as sign_token};
 
 use crate::expr::{Binary, CallKind};
@@ -11,7 +12,7 @@ use crate::reading::{behind_sign, first_sign};
 use wb_aql_tokens::{Sign, Token};
 
 /// A level of binary operators that form chains, from the loosest to the tightest.
-#[derive(Clone, Copy, Debug, PartialEq, Eq)]
+#[derive(Clone, Copy)]
 pub enum Level {
     Implies,
     Or,

@@ -13,8 +13,8 @@ mod postfix;
 mod reading;
 mod refusal;
 mod spelled;
-mod stop;
 mod text_laws;
+mod unread;
 
 pub use expr::{Argument, Binary, CallKind, CollectionKind, Constant, Node, Unary};
 pub use expression::Expr;

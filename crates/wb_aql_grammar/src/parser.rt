@@ -1,18 +1,18 @@
 ghost use Rattle.wb_aql_grammar.specs.View.{tree_of};
 ghost use Rattle.wb_aql_grammar.specs.Grammar.{Expr, Neg, Cmp, Unary as UnaryPhrase, last};
-ghost use Rattle.wb_aql_grammar.specs.Reading.{Comes, ComesEnded, operand, whole, let_inside};
+ghost use Rattle.wb_aql_grammar.specs.invariants.Reading.{Comes, ComesEnded, operand, whole, let_inside};
 ghost use Rattle.wb_aql_tokens.specs.declared.token.Token.TheVariants.{Sign as sign_token};
 
 use crate::expr::{Node, Unary};
 use crate::level::{Level, comparison_at, operator_at};
 use crate::postfix::parse_postfix;
 use crate::reading::{Room, enter, expect, expect_name, is_next};
-use crate::stop::Stop;
+use crate::unread::Unread;
 use std::alloc::Global;
 use wb_aql_tokens::{Sign, Token};
 
 /// What was read, and the tokens that follow it.
-pub type Read<'a, T> = Result<(T, &'a [Token]), Stop<'a>>;
+pub type Read<'a, T> = Result<(T, &'a [Token]), Unread<'a>>;
 
 /// Reads an expression.
 #[cycle(parser)]

@@ -1,8 +1,8 @@
 ghost use Rattle.std.specs.Prelude.{◌≤◌, ℕ, length, IfOk};
 ghost use Rattle.wb_aql_grammar.specs.View.{tree_of};
 ghost use Rattle.wb_aql_grammar.specs.Grammar.{Post, last, name};
-ghost use Rattle.wb_aql_grammar.specs.Runs.{call as call_line, lambda_line, class_line};
-ghost use Rattle.wb_aql_grammar.specs.Reading.{Comes, ComesLinked, ComesArguments, ComesArgument, Names, linked, any_argument};
+ghost use Rattle.wb_aql_grammar.specs.invariants.Runs.{call as call_line, lambda_line, class_line};
+ghost use Rattle.wb_aql_grammar.specs.invariants.Reading.{Comes, ComesLinked, ComesArguments, ComesArgument, IsCalled, linked, any_argument};
 
 use crate::arguments::{Shape, is_closing, shape_of};
 use crate::atom::parse_atom;
@@ -51,7 +51,7 @@ fn parse_link<'a>(
 
 /// Is what was named a service? Behind `->` it is.
 fn is_call(kind: CallKind, tokens: &[Token]) -> bool
-    ensures { Names result kind tokens.now }
+    ensures { IsCalled result kind tokens.now }
 {
     match kind {
         CallKind::Dot => is_next(tokens, Sign::Open),

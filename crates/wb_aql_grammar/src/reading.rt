@@ -1,12 +1,12 @@
 ghost use Rattle.std.specs.Prelude.{◌≡◌, ◌<◌, ℕ, suc, List, [], ◌∷◌, ◌↔◌, Some, IsTrue, IfOk, MatchOption, MatchResult};
 ghost use Rattle.wb_aql_grammar.specs.Grammar.{openings, lambdas};
 ghost use Rattle.wb_aql_grammar.specs.Grammar as g;
-ghost use Rattle.wb_aql_grammar.specs.Runs.{head};
-ghost use Rattle.wb_aql_grammar.specs.Reading.{ReadsSign, NoSign, ReadsName, NoName, Enters, NoEntry};
+ghost use Rattle.wb_aql_grammar.specs.Places.{head};
+ghost use Rattle.wb_aql_grammar.specs.invariants.Reading.{ReadsSign, NoSign, ReadsName, NoName, Enters, NoEntry};
 ghost use Rattle.wb_aql_tokens.specs.declared.token.Sign.{Sign as SignName};
 ghost use Rattle.wb_aql_tokens.specs.declared.token.Token.TheVariants.{Sign as sign_token, Name as name_token};
 
-use crate::stop::Stop;
+use crate::unread::Unread;
 use std::alloc::Global;
 use wb_aql_tokens::{Sign, Token};
 use wb_base::{Duplicate, Text};
@@ -66,17 +66,17 @@ pub fn first_name(tokens: &[Token]) -> Option<(&Text, &[Token])>
 }
 
 /// What follows this sign or word, which has to be the next token.
-pub fn expect(tokens: &[Token], sign: Sign) -> Result<&[Token], Stop<'_>>
+pub fn expect(tokens: &[Token], sign: Sign) -> Result<&[Token], Unread<'_>>
     ensures { MatchResult result (λ rest. ReadsSign (sign_token sign) tokens.now rest.now) (NoSign (sign_token sign) tokens.now) }
 {
     match behind_sign(tokens, sign) {
         Some(rest) => Ok(rest),
-        None => Err(Stop::Wrong(tokens)),
+        None => Err(Unread::Wrong(tokens)),
     }
 }
 
 /// A copy of the name that has to be the next token, and what follows it.
-pub fn expect_name(alloc: Global, tokens: &[Token]) -> Result<(Text, &[Token]), Stop<'_>>
+pub fn expect_name(alloc: Global, tokens: &[Token]) -> Result<(Text, &[Token]), Unread<'_>>
     ensures { MatchResult result (λ u. ReadsName u.0 tokens.now u.1.now) (NoName tokens.now) }
 {
     match first_name(tokens) {
@@ -84,7 +84,7 @@ pub fn expect_name(alloc: Global, tokens: &[Token]) -> Result<(Text, &[Token]), 
             let name = name.copy(alloc)?;
             Ok((name, rest))
         }
-        None => Err(Stop::Wrong(tokens)),
+        None => Err(Unread::Wrong(tokens)),
     }
 }
 
@@ -117,29 +117,29 @@ impl Room {
 }
 
 /// Behind an opening, which has to be the next token.
-pub fn enter(tokens: &[Token], sign: Sign, room: Room) -> Result<(&[Token], Room), Stop<'_>>
+pub fn enter(tokens: &[Token], sign: Sign, room: Room) -> Result<(&[Token], Room), Unread<'_>>
     ensures entered { MatchResult result (λ u. Enters openings (sign_token sign) tokens.now u.0.now room.openings room.lambdas u.1.openings u.1.lambdas) (NoEntry openings (sign_token sign) tokens.now room.openings room.lambdas) }
     ensures less { IfOk result (λ u. u.1.openings < room.openings) }
 {
     match behind_sign(tokens, sign) {
         Some(rest) => match room.opened() {
             Some(inner) => Ok((rest, inner)),
-            None => Err(Stop::Deep(tokens)),
+            None => Err(Unread::Deep(tokens)),
         },
-        None => Err(Stop::Wrong(tokens)),
+        None => Err(Unread::Wrong(tokens)),
     }
 }
 
 /// Behind the `|` of a lambda, which has to be the next token.
-pub fn enter_lambda(tokens: &[Token], room: Room) -> Result<(&[Token], Room), Stop<'_>>
+pub fn enter_lambda(tokens: &[Token], room: Room) -> Result<(&[Token], Room), Unread<'_>>
     ensures entered { MatchResult result (λ u. Enters lambdas (sign_token Sign.Bar) tokens.now u.0.now room.openings room.lambdas u.1.openings u.1.lambdas) (NoEntry lambdas (sign_token Sign.Bar) tokens.now room.openings room.lambdas) }
     ensures same { IfOk result (λ u. u.1.openings ≡ room.openings) }
 {
     match behind_sign(tokens, Sign::Bar) {
         Some(rest) => match room.bound() {
             Some(inner) => Ok((rest, inner)),
-            None => Err(Stop::Deep(tokens)),
+            None => Err(Unread::Deep(tokens)),
         },
-        None => Err(Stop::Wrong(tokens)),
+        None => Err(Unread::Wrong(tokens)),
     }
 }

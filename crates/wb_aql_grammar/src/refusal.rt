@@ -5,7 +5,7 @@ use std::alloc::AllocError;
 use thiserror::Error;
 
 /// Why a text is no expression, with the offset of the byte at which that shows.
-#[derive(Clone, Copy, Debug, PartialEq, Eq, Error)]
+#[derive(Clone, Copy, Debug, Error)]
 pub enum ParseRefusal {
     /// The token that starts here cannot go on, or the text ends too soon.
     #[error("syntax error at byte {0}")]

@@ -2,17 +2,17 @@ ghost use Rattle.std.specs.Prelude.{◌≡◌, ◌≤◌, ◌+◌, length, IfOk,
 ghost use Rattle.wb_aql_grammar.specs.Tree.{Tree};
 ghost use Rattle.wb_aql_grammar.specs.View.{tree_of};
 ghost use Rattle.wb_aql_grammar.specs.Grammar.{Spells};
-ghost use Rattle.wb_aql_grammar.specs.Answers.{Takes, RefusesTokens};
+ghost use Rattle.wb_aql_grammar.specs.invariants.Spelled.{IsReadAs, RefusesTokens};
 
 use crate::expr::Node;
 use crate::parser::parse_expression;
 use crate::reading::{Room, first_token};
-use crate::stop::Stop;
+use crate::unread::Unread;
 use std::alloc::Global;
 use wb_aql_tokens::Token;
 
 /// Why tokens are no expression, with the number of tokens before the place.
-#[derive(Clone, Copy, Debug, PartialEq, Eq)]
+#[derive(Clone, Copy)]
 pub enum TokenRefusal {
     /// The token cannot go on, or the tokens end too soon.
     Syntax(usize),
@@ -24,7 +24,7 @@ pub enum TokenRefusal {
 /// The expression that the tokens spell, with at most 64 openings and 4 lambdas open at once.
 pub fn parse_tokens(alloc: Global, tokens: &[Token]) -> Result<Node, TokenRefusal>
     ensures found { IfOk result (λ node. Spells 64 4 tokens.now (tree_of node)) }
-    ensures taken { (x : Tree) → Spells 64 4 tokens.now x → Takes x result }
+    ensures taken { (x : Tree) → Spells 64 4 tokens.now x → IsReadAs x result }
     ensures refused { IfErr result (RefusesTokens tokens.now) }
 {
     let room = Room {
@@ -36,9 +36,9 @@ pub fn parse_tokens(alloc: Global, tokens: &[Token]) -> Result<Node, TokenRefusa
             None => Ok(node),
             Some(_) => Err(TokenRefusal::Syntax(tokens_before(tokens, rest))),
         },
-        Err(Stop::Wrong(rest)) => Err(TokenRefusal::Syntax(tokens_before(tokens, rest))),
-        Err(Stop::Deep(rest)) => Err(TokenRefusal::TooDeep(tokens_before(tokens, rest))),
-        Err(Stop::NoMemory) => Err(TokenRefusal::NoMemory),
+        Err(Unread::Wrong(rest)) => Err(TokenRefusal::Syntax(tokens_before(tokens, rest))),
+        Err(Unread::Deep(rest)) => Err(TokenRefusal::TooDeep(tokens_before(tokens, rest))),
+        Err(Unread::NoMemory) => Err(TokenRefusal::NoMemory),
     }
 }
 

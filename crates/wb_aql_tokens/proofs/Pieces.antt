@@ -4,7 +4,7 @@ use Rattle.std.specs.Str.{byte}
 use Rattle.std.proofs.lemmas.Bool.{and_from, not_from_false, ne_eqb}
 use Rattle.std.proofs.lemmas.List.{append_cancel_left, length-append}
 use Rattle.wb_aql_tokens.specs.Lexes.{is_quotable, is_raw, escape_of, Quotes, Means, means_none, means_raw, means_escaped, NoToken}
-use Rattle.wb_aql_tokens.specs.Lexer.{first_start, BeginsWith, BeginsWithPiece, BeginsWithEscape, NoEscape, Stops, Unescapes}
+use Rattle.wb_aql_tokens.specs.Lexer.{first_start, BeginsWith, BeginsWithPiece, BeginsWithEscape, NoEscape, NoPiece, Unescapes}
 use Rattle.wb_aql_tokens.specs.declared.characters.Start.TheVariants as b
 use Rattle.wb_aql_tokens.specs.declared.token.Token.TheVariants.{Quoted}
 use Rattle.wb_aql_tokens.proofs.Spellings.{token_start, quoted_bytes}
@@ -22,7 +22,7 @@ no_cons e = cc
 raw_slash : (c : ℕ) → is_raw c ≡ true → c ≡ byte "\\" → ⊥
 raw_slash c raw e = true≢false (sym (subst (λ d. is_raw d ≡ true) e raw))
 
-pub same_pieces : {front value : List ℕ} → Means front value → {other known : List ℕ} → Means other known → (x y : List ℕ) → front ++ x ≡ other ++ y → Stops x → Stops y →
+pub same_pieces : {front value : List ℕ} → Means front value → {other known : List ℕ} → Means other known → (x y : List ℕ) → front ++ x ≡ other ++ y → NoPiece x → NoPiece y →
     (front ≡ other) × (value ≡ known)
 same_pieces means_none means_none x y e sx sy = (refl, refl)
 same_pieces means_none (means_raw {c} {bytes} raw d) x y e sx sy = absurd (no_cons (sx (c ∷ bytes) _ y e (means_raw raw d)))
@@ -51,7 +51,7 @@ head_of e = cc
 tail_of : {c d : ℕ} {xs ys : List ℕ} → c ∷ xs ≡ d ∷ ys → xs ≡ ys
 tail_of e = cc
 
-pub nothing_stops : Stops []
+pub nothing_stops : NoPiece []
 nothing_stops piece value more e means_none = refl
 nothing_stops piece value more e (means_raw {c} {bytes} raw d) = absurd (no_cons (sym e))
 nothing_stops piece value more e (means_escaped slash m d) = absurd (no_cons (sym e))
@@ -62,7 +62,7 @@ quote_is_not_raw c e raw = true≢false (sym (subst (λ d. is_raw d ≡ true) (s
 quote_is_no_slash : (c : ℕ) → byte "'" ≡ c → c ≡ byte "\\" → ⊥
 quote_is_no_slash c e slash = let wrong : byte "'" ≡ byte "\\" = e ∙ slash in cc
 
-pub quote_stops : (rest : List ℕ) → Stops (byte "'" ∷ rest)
+pub quote_stops : (rest : List ℕ) → NoPiece (byte "'" ∷ rest)
 quote_stops rest piece value more e means_none = refl
 quote_stops rest piece value more e (means_raw {c} raw d) = absurd (quote_is_not_raw c (head_of e) raw)
 quote_stops rest piece value more e (means_escaped {c} slash m d) = absurd (quote_is_no_slash c (head_of e) slash)
@@ -70,7 +70,7 @@ quote_stops rest piece value more e (means_escaped {c} slash m d) = absurd (quot
 some_none : {m : ℕ} → None ≡ Some m → ⊥
 some_none e = cc
 
-slash_stops : (rest : List ℕ) → NoEscape rest → Stops (byte "\\" ∷ rest)
+slash_stops : (rest : List ℕ) → NoEscape rest → NoPiece (byte "\\" ∷ rest)
 slash_stops rest wrong piece value more e means_none = refl
 slash_stops rest wrong piece value more e (means_raw {c} raw d) = absurd (raw_slash c raw (sym (head_of e)))
 slash_stops rest wrong piece value more e (means_escaped {c} {code} {meaning} {bytes} slash m d) =
@@ -78,8 +78,8 @@ slash_stops rest wrong piece value more e (means_escaped {c} {code} {meaning} {b
 
 -- an escape is a piece
 pub escape_piece : (bytes rest : List ℕ) → bytes ≡ byte "\\" ∷ rest → (found : Option (ℕ × Bor (List ℕ))) → MatchOption found (NoEscape rest) (λ u. BeginsWithEscape rest u.0 u.1.now) →
-    MatchOption found (Stops bytes) (λ u. BeginsWithPiece bytes u.0 u.1.now)
-escape_piece bytes rest e None wrong = subst Stops (sym e) (slash_stops rest wrong)
+    MatchOption found (NoPiece bytes) (λ u. BeginsWithPiece bytes u.0 u.1.now)
+escape_piece bytes rest e None wrong = subst NoPiece (sym e) (slash_stops rest wrong)
 escape_piece bytes rest e (Some u) h = record {
   piece = byte "\\" ∷ h.code ∷ [];
   whole = e ∙ ap (λ xs. byte "\\" ∷ xs) h.whole;

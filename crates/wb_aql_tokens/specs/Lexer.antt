@@ -48,8 +48,8 @@ pub record BeginsWithEscape (bytes : List ℕ) (meaning : ℕ) (rest : List ℕ)
   pub escape : escape_of code ≡ Some meaning
 
 -- no piece of a text in quotes begins these bytes
-abbrev pub Stops : List ℕ → Type 0
-Stops bytes = (piece value more : List ℕ) → bytes ≡ piece ++ more → Means piece value → piece ≡ []
+abbrev pub NoPiece : List ℕ → Type 0
+NoPiece bytes = (piece value more : List ℕ) → bytes ≡ piece ++ more → Means piece value → piece ≡ []
 
 -- the piece that begins the bytes means this byte, and the rest follows
 pub record BeginsWithPiece (bytes : List ℕ) (meaning : ℕ) (rest : List ℕ) : Type 0 where
@@ -62,4 +62,4 @@ pub record Unescapes (bytes value rest : List ℕ) : Type 0 where
   pub front : List ℕ
   pub whole : bytes ≡ front ++ rest
   pub means : Means front value
-  pub stops : Stops rest
+  pub stops : NoPiece rest

@@ -30,7 +30,7 @@ pub fn is_name_byte(byte: u8) -> bool
 }
 
 /// What a token can be, by its first byte.
-#[derive(Clone, Copy, Debug, PartialEq, Eq)]
+#[derive(Clone, Copy)]
 pub enum Start {
     /// A name or a reserved word.
     Word,

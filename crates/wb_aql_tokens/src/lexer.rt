@@ -14,10 +14,18 @@ use wb_base::{List, Text};
 const LARGEST_INTEGER: u64 = 9_223_372_036_854_775_807;
 
 /// The tokens of a text with the offset at which each starts.
-#[derive(Debug, Drop)]
 pub struct Lexed {
     pub tokens: List<Token>,
     pub starts: List<usize>,
+}
+
+impl Drop for Lexed {
+    fn drop(self) {
+        let Lexed {
+            tokens: _tokens,
+            starts: _starts,
+        } = self;
+    }
 }
 
 /// The tokens of a text with the offset at which each starts. `Bad` is the last where no token begins.

@@ -1,7 +1,7 @@
 ghost use Rattle.std.specs.Prelude.{◌≡◌, ◌≢◌, ℕ, List, ◌∷◌, true, false, IfOk, MatchOption};
 ghost use Rattle.std.specs.Str.{byte};
 ghost use Rattle.wb_aql_tokens.specs.Lexes.{escape_of, is_quotable};
-ghost use Rattle.wb_aql_tokens.specs.Lexer.{BeginsWithEscape, BeginsWithPiece, NoEscape, Stops, Unescapes};
+ghost use Rattle.wb_aql_tokens.specs.Lexer.{BeginsWithEscape, BeginsWithPiece, NoEscape, NoPiece, Unescapes};
 
 use crate::characters::first_byte;
 use std::alloc::{AllocError, Global};
@@ -36,7 +36,7 @@ fn escaped(behind: &[u8]) -> Option<(u8, &[u8])>
 
 /// What the next piece of a text in quotes means, and what follows it.
 fn first_piece(bytes: &[u8]) -> Option<(u8, &[u8])>
-    ensures { MatchOption result (Stops bytes.now) (λ u. BeginsWithPiece bytes.now u.0 u.1.now) }
+    ensures { MatchOption result (NoPiece bytes.now) (λ u. BeginsWithPiece bytes.now u.0 u.1.now) }
 {
     match first_byte(bytes) {
         Some((byte, rest)) => {

@@ -41,7 +41,7 @@ pub enum Sign {
 }
 
 /// A token of a text.
-#[derive(Debug, Drop)]
+#[derive(Drop)]
 pub enum Token {
     Sign(Sign),
     /// A name that is not reserved.

@@ -3,9 +3,9 @@ use Rattle.std.proofs.lemmas.Result.{IfOk-weaker}
 use Rattle.wb_aql_grammar.specs.Tree as tree
 use Rattle.wb_aql_grammar.specs.View.{tree_of, arguments_in}
 use Rattle.wb_aql_grammar.specs.Grammar.{last, PostMore}
-use Rattle.wb_aql_grammar.specs.Runs as run
-use Rattle.wb_aql_grammar.specs.Runs.{Runs}
-use Rattle.wb_aql_grammar.specs.Reading.{more}
+use Rattle.wb_aql_grammar.specs.invariants.Runs as run
+use Rattle.wb_aql_grammar.specs.invariants.Runs.{Runs}
+use Rattle.wb_aql_grammar.specs.invariants.Reading.{more}
 use Rattle.wb_aql_tokens.specs.declared.token.Token.TheVariants.{Name}
 use Rattle.wb_aql_grammar.proofs.Growing.{trees_in-push, arguments_in-push}
 use Rattle.wb_aql_grammar.proofs.Local.{not_both}

@@ -2,8 +2,8 @@ use Rattle.std.proofs.Common.{ℕ, List, ◌+◌, ◌*◌, length}
 use Rattle.wb_aql_grammar.specs.View.{tree_of, trees_in, arguments_in}
 use Rattle.wb_aql_grammar.specs.Tree.{Tree}
 use Rattle.wb_aql_grammar.specs.Grammar.{Post, PostMore, CallArguments, Argument, Elements, Element, last}
-use Rattle.wb_aql_grammar.specs.Runs.{Outcome, Runs}
-use Rattle.wb_aql_grammar.specs.Reading.{whole, more}
+use Rattle.wb_aql_grammar.specs.invariants.Runs.{Outcome, Runs}
+use Rattle.wb_aql_grammar.specs.invariants.Reading.{whole, more}
 use Rattle.wb_aql_grammar.specs.declared.expr.CallKind.{CallKind}
 use Rattle.wb_aql_grammar.specs.declared.expr.CollectionKind.{CollectionKind}
 use Rattle.wb_aql_grammar.proofs.Measures.{operand_rank, level_rank}

@@ -1,5 +1,5 @@
 use Rattle.wb_aql_grammar.proofs.Parts.{exit, as_tree, stop_by}
-use Rattle.wb_aql_grammar.specs.Runs as run
+use Rattle.wb_aql_grammar.specs.invariants.Runs as run
 use Rattle.wb_aql_grammar.proofs.atom.parse_literal.Goals as goal
 
 pub returns-in_err-enumeration : goal.returns-in_err-enumeration

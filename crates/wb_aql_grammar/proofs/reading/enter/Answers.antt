@@ -1,5 +1,5 @@
 use Rattle.wb_aql_grammar.proofs.Steps.{step_opening, no_opening_left}
-use Rattle.wb_aql_grammar.specs.Runs as run
+use Rattle.wb_aql_grammar.specs.invariants.Runs as run
 use Rattle.wb_aql_grammar.proofs.reading.enter.Goals as goal
 
 pub returns-in-Some-opened-clause-entered : goal.returns-in-Some-opened-clause-entered

@@ -1,5 +1,5 @@
 use Rattle.wb_aql_grammar.proofs.Steps.{step_lambda, no_lambda_left}
-use Rattle.wb_aql_grammar.specs.Runs as run
+use Rattle.wb_aql_grammar.specs.invariants.Runs as run
 use Rattle.wb_aql_grammar.proofs.reading.enter_lambda.Goals as goal
 
 pub returns-in-Some-bound-clause-entered : goal.returns-in-Some-bound-clause-entered

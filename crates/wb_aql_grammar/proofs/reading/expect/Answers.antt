@@ -1,5 +1,5 @@
 use Rattle.wb_aql_grammar.proofs.Steps.{step_sign}
-use Rattle.wb_aql_grammar.specs.Runs as run
+use Rattle.wb_aql_grammar.specs.invariants.Runs as run
 use Rattle.wb_aql_grammar.proofs.reading.expect.Goals as goal
 
 pub returns-in-Some : goal.returns-in-Some

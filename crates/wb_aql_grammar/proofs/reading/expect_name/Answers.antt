@@ -1,7 +1,7 @@
 use Rattle.std.proofs.Common.{subst}
 use Rattle.wb_aql_grammar.proofs.Steps.{step_name}
-use Rattle.wb_aql_grammar.specs.Runs as run
-use Rattle.wb_aql_grammar.specs.Runs.{Runs}
+use Rattle.wb_aql_grammar.specs.invariants.Runs as run
+use Rattle.wb_aql_grammar.specs.invariants.Runs.{Runs}
 use Rattle.wb_aql_grammar.proofs.reading.expect_name.Goals as goal
 
 pub returns-in_ok-name-in-Some : goal.returns-in_ok-name-in-Some

@@ -9,8 +9,8 @@ use Rattle.wb_aql_grammar.specs.declared.spelled.TokenRefusal.{TokenRefusal}
 use Rattle.wb_aql_grammar.specs.declared.spelled.TokenRefusal.TheVariants as r
 
 -- the answer is this tree, or want of memory
-abbrev pub Takes : Tree → Result Node TokenRefusal → Type 0
-Takes x result = MatchResult result (λ node. tree_of node ≡ x) (λ e. e ≡ r.NoMemory)
+abbrev pub IsReadAs : Tree → Result Node TokenRefusal → Type 0
+IsReadAs x result = MatchResult result (λ node. tree_of node ≡ x) (λ e. e ≡ r.NoMemory)
 
 -- the place of the refusal, within 64 openings and 4 lambdas; want of memory says nothing
 abbrev pub RefusesTokens : List Token → TokenRefusal → Type 0

@@ -1,7 +1,8 @@
 -- How a text is read from the left: which line of the grammar is taken at which next token, and what comes of it.
-use Rattle.std.specs.Prelude.{ℕ, zero, List, [], ◌∷◌, ◌≡◌, ◌≢◌, Option, Some, None}
+use Rattle.std.specs.Prelude.{ℕ, zero, List, ◌∷◌, ◌≡◌, ◌≢◌, Option, Some, None}
 use Rattle.wb_aql_grammar.specs.Tree.{Tree, Trees, Arguments, no_trees, no_arguments, with_tree, with_lambda, with_type, with_expression}
 use Rattle.wb_aql_grammar.specs.Tree as t
+use Rattle.wb_aql_grammar.specs.Places.{head}
 use Rattle.wb_aql_grammar.specs.Grammar.{Phrase, Expr, Implies, Or, Xor, And, Neg, Cmp, Sum, Term, Unary, Post, Atom, ImpliesMore, OrMore, XorMore, AndMore, CmpMore, SumMore, TermMore, PostMore, Named, Featured, CallArguments, Argument, ArgumentMore, Elements, Element, ElementMore, Bound, openings, lambdas, Rest, done, sign, name, phrase, opening, last, inside, Takes}
 use Rattle.wb_aql_tokens.specs.declared.token.Token.{Token}
 use Rattle.wb_aql_tokens.specs.declared.token.Token.TheVariants.{Sign, Name, Integer, Quoted}
@@ -15,11 +16,6 @@ use Rattle.wb_aql_grammar.specs.declared.expr.Binary.TheVariants as b
 use Rattle.wb_aql_grammar.specs.declared.expr.CallKind.{CallKind}
 use Rattle.wb_aql_grammar.specs.declared.expr.CallKind.TheVariants as d
 
--- the next token; none at the end
-abbrev pub head : List Token → Option Token
-head [] = None
-head (a ∷ text) = Some a
-
 -- what comes of reading: a tree and what follows it, or what follows the front that can still be read,
 -- where the next token cannot go on, or opens one more than may be open
 pub data Outcome : Type 0 where
@@ -28,9 +24,9 @@ pub data Outcome : Type 0 where
   Deep : List Token → Outcome
 
 -- nothing was read
-pub data IsStop : Outcome → Type 0 where
-  wrong_stops : {rest : List Token} → IsStop (Wrong rest)
-  deep_stops : {rest : List Token} → IsStop (Deep rest)
+pub data IsUnread : Outcome → Type 0 where
+  wrong_unread : {rest : List Token} → IsUnread (Wrong rest)
+  deep_unread : {rest : List Token} → IsUnread (Deep rest)
 
 -- a chain goes on with an operator and an operand
 abbrev pub chain : Token → Phrase → (Tree → Phrase) → Rest
@@ -212,13 +208,13 @@ pub data Runs : ℕ → ℕ → Rest → List Token → Outcome → Type 0 where
   runs_phrase : {n l : ℕ} {p : Phrase} {line : Rest} {r : Tree → Rest} {text more : List Token} {y : Tree} {o : Outcome} →
       pick p text ≡ Some line → Runs n l line text (Good y more) → Runs n l (r y) more o → Runs n l (phrase p r) text o
   runs_phrase_stop : {n l : ℕ} {p : Phrase} {line : Rest} {r : Tree → Rest} {text : List Token} {o : Outcome} →
-      pick p text ≡ Some line → Runs n l line text o → IsStop o → Runs n l (phrase p r) text o
+      pick p text ≡ Some line → Runs n l line text o → IsUnread o → Runs n l (phrase p r) text o
   runs_no_phrase : {n l : ℕ} {p : Phrase} {r : Tree → Rest} {text : List Token} →
       pick p text ≡ None → Runs n l (phrase p r) text (Wrong text)
   runs_opening : {bound : Bound} {n l m k : ℕ} {a : Token} {i : Rest} {r : Tree → Rest} {text more : List Token} {y : Tree} {o : Outcome} →
       Takes bound n l m k → Runs m k i text (Good y more) → Runs n l (r y) more o → Runs n l (opening bound a i r) (a ∷ text) o
   runs_opening_stop : {bound : Bound} {n l m k : ℕ} {a : Token} {i : Rest} {r : Tree → Rest} {text : List Token} {o : Outcome} →
-      Takes bound n l m k → Runs m k i text o → IsStop o → Runs n l (opening bound a i r) (a ∷ text) o
+      Takes bound n l m k → Runs m k i text o → IsUnread o → Runs n l (opening bound a i r) (a ∷ text) o
   runs_no_opening : {bound : Bound} {n l : ℕ} {a : Token} {i : Rest} {r : Tree → Rest} {text : List Token} →
       head text ≢ Some a → Runs n l (opening bound a i r) text (Wrong text)
   runs_too_deep : {bound : Bound} {n l : ℕ} {a : Token} {i : Rest} {r : Tree → Rest} {text : List Token} →

@@ -5,8 +5,8 @@ use Rattle.wb_aql_grammar.specs.Tree.{Tree, Arguments, with_lambda, with_type, w
 use Rattle.wb_aql_grammar.specs.Tree as t
 use Rattle.wb_aql_grammar.specs.View.{tree_of, trees_in, arguments_in}
 use Rattle.wb_aql_grammar.specs.Grammar.{Phrase, Expr, Implies, Or, Xor, And, Neg, Sum, Term, Unary, ImpliesMore, OrMore, XorMore, AndMore, SumMore, TermMore, CmpMore, PostMore, Featured, CallArguments, Argument as ArgumentPhrase, ArgumentMore, Elements, Bound, openings, Rest, done, sign, name, phrase, opening, last, inside}
-use Rattle.wb_aql_grammar.specs.Runs.{Outcome, Good, IsStop, Runs, call, lambda_line, class_line, expression_line}
-use Rattle.wb_aql_grammar.specs.Runs as o
+use Rattle.wb_aql_grammar.specs.invariants.Runs.{Outcome, Good, IsUnread, Runs, call, lambda_line, class_line, expression_line}
+use Rattle.wb_aql_grammar.specs.invariants.Runs as o
 use Rattle.wb_aql_tokens.specs.declared.token.Token.{Token}
 use Rattle.wb_aql_grammar.specs.declared.expr.Node.{Node}
 use Rattle.wb_aql_grammar.specs.declared.expr.Argument.{Argument}
@@ -17,51 +17,51 @@ use Rattle.wb_aql_grammar.specs.declared.expr.Binary.{Binary}
 use Rattle.wb_aql_grammar.specs.declared.expr.CollectionKind.{CollectionKind}
 use Rattle.wb_aql_grammar.specs.declared.expr.CallKind.{CallKind}
 use Rattle.wb_aql_grammar.specs.declared.expr.CallKind.TheVariants as d
-use Rattle.wb_aql_grammar.specs.declared.stop.Stop.{Stop}
-use Rattle.wb_aql_grammar.specs.declared.stop.Stop.TheVariants as e
+use Rattle.wb_aql_grammar.specs.declared.unread.Unread.{Unread}
+use Rattle.wb_aql_grammar.specs.declared.unread.Unread.TheVariants as e
 use Rattle.wb_aql_grammar.specs.declared.level.Level.{Level}
 use Rattle.wb_aql_grammar.specs.declared.level.Level.TheVariants as v
 use Rattle.wb_aql_grammar.specs.declared.arguments.Shape.{Shape}
 use Rattle.wb_aql_grammar.specs.declared.arguments.Shape.TheVariants as h
 
 -- the outcome of an error; want of memory has none
-abbrev pub Stops : (Outcome → Type 0) → Stop → Type 0
-Stops R (e.Wrong rest) = R (o.Wrong rest.now)
-Stops R (e.Deep rest) = R (o.Deep rest.now)
-Stops R e.NoMemory = Unit {0}
+abbrev pub IsOutcome : (Outcome → Type 0) → Unread → Type 0
+IsOutcome R (e.Wrong rest) = R (o.Wrong rest.now)
+IsOutcome R (e.Deep rest) = R (o.Deep rest.now)
+IsOutcome R e.NoMemory = Unit {0}
 
 -- the sign is read: what comes of the rest comes of the whole
 abbrev pub ReadsSign : Token → List Token → List Token → Type 0
 ReadsSign a text rest = (n l : ℕ) (r : Rest) (o : Outcome) → Runs n l r rest o → Runs n l (sign a r) text o
 
-abbrev pub NoSign : Token → List Token → Stop → Type 0
-NoSign a text e = (n l : ℕ) (r : Rest) → Stops (Runs n l (sign a r) text) e
+abbrev pub NoSign : Token → List Token → Unread → Type 0
+NoSign a text e = (n l : ℕ) (r : Rest) → IsOutcome (Runs n l (sign a r) text) e
 
 abbrev pub ReadsName : List ℕ → List Token → List Token → Type 0
 ReadsName v text rest = (n l : ℕ) (r : List ℕ → Rest) (o : Outcome) → Runs n l (r v) rest o → Runs n l (name r) text o
 
-abbrev pub NoName : List Token → Stop → Type 0
-NoName text e = (n l : ℕ) (r : List ℕ → Rest) → Stops (Runs n l (name r) text) e
+abbrev pub NoName : List Token → Unread → Type 0
+NoName text e = (n l : ℕ) (r : List ℕ → Rest) → IsOutcome (Runs n l (name r) text) e
 
 -- what stands inside an opening, up to its end, is read
 abbrev pub Enters : Bound → Token → List Token → List Token → (n l m k : ℕ) → Type 0
 Enters b a text rest n l m k = (i : Rest) (r : Tree → Rest) →
-    ((o : Outcome) → IsStop o → Runs m k i rest o → Runs n l (opening b a i r) text o) ×
+    ((o : Outcome) → IsUnread o → Runs m k i rest o → Runs n l (opening b a i r) text o) ×
     ((y : Tree) (more : List Token) (o : Outcome) → Runs m k i rest (Good y more) → Runs n l (r y) more o → Runs n l (opening b a i r) text o)
 
-abbrev pub NoEntry : Bound → Token → List Token → (n l : ℕ) → Stop → Type 0
-NoEntry b a text n l e = (i : Rest) (r : Tree → Rest) → Stops (Runs n l (opening b a i r) text) e
+abbrev pub NoEntry : Bound → Token → List Token → (n l : ℕ) → Unread → Type 0
+NoEntry b a text n l e = (i : Rest) (r : Tree → Rest) → IsOutcome (Runs n l (opening b a i r) text) e
 
 -- a phrase is read
 abbrev pub ReadsPhrase : ℕ → ℕ → Phrase → List Token → Tree → List Token → Type 0
 ReadsPhrase n l p text x rest = (r : Tree → Rest) (o : Outcome) → Runs n l (r x) rest o → Runs n l (phrase p r) text o
 
-abbrev pub NoPhrase : ℕ → ℕ → Phrase → List Token → Stop → Type 0
-NoPhrase n l p text e = (r : Tree → Rest) → Stops (Runs n l (phrase p r) text) e
+abbrev pub NoPhrase : ℕ → ℕ → Phrase → List Token → Unread → Type 0
+NoPhrase n l p text e = (r : Tree → Rest) → IsOutcome (Runs n l (phrase p r) text) e
 
 -- what comes of the rest of a line
-abbrev pub Comes : ℕ → ℕ → Rest → List Token → Result (Node × Bor (List Token)) Stop → Type 0
-Comes n l r text result = MatchResult result (λ u. Runs n l r text (Good (tree_of u.0) u.1.now)) (Stops (Runs n l r text))
+abbrev pub Comes : ℕ → ℕ → Rest → List Token → Result (Node × Bor (List Token)) Unread → Type 0
+Comes n l r text result = MatchResult result (λ u. Runs n l r text (Good (tree_of u.0) u.1.now)) (IsOutcome (Runs n l r text))
 
 -- the phrases of a level of binary operators
 abbrev pub whole : Level → Phrase
@@ -132,38 +132,38 @@ abbrev pub named_link : Bool → CallKind → Tree → List ℕ → Rest
 named_link true k x v = call k x v
 named_link false k x v = last (PostMore (t.Feature x v))
 
-abbrev pub Names : Bool → CallKind → List Token → Type 0
-Names called k text = (n l : ℕ) (x : Tree) (v : List ℕ) (o : Outcome) → Runs n l (named_link called k x v) text o → Runs n l (linked k x v) text o
+abbrev pub IsCalled : Bool → CallKind → List Token → Type 0
+IsCalled called k text = (n l : ℕ) (x : Tree) (v : List ℕ) (o : Outcome) → Runs n l (named_link called k x v) text o → Runs n l (linked k x v) text o
 
 -- one link of a chain of `.` and `->` is read: what comes of the chain behind it comes of the whole
-abbrev pub ComesLinked : ℕ → ℕ → Rest → List Token → Result (Node × Bor (List Token)) Stop → Type 0
+abbrev pub ComesLinked : ℕ → ℕ → Rest → List Token → Result (Node × Bor (List Token)) Unread → Type 0
 ComesLinked n l r text result = MatchResult result
-    (λ u. (o : Outcome) → Runs n l (last (PostMore (tree_of u.0))) u.1.now o → Runs n l r text o) (Stops (Runs n l r text))
+    (λ u. (o : Outcome) → Runs n l (last (PostMore (tree_of u.0))) u.1.now o → Runs n l r text o) (IsOutcome (Runs n l r text))
 
 -- an expression that ends with this sign is read
-abbrev pub ComesEnded : ℕ → ℕ → Token → List Token → Result (Node × Bor (List Token)) Stop → Type 0
+abbrev pub ComesEnded : ℕ → ℕ → Token → List Token → Result (Node × Bor (List Token)) Unread → Type 0
 ComesEnded n l a text result = MatchResult result
     (λ u. (r : Tree → Rest) (o : Outcome) → Runs n l (r (tree_of u.0)) u.1.now o → Runs n l (phrase Expr (λ x. sign a (r x))) text o)
-    (λ e. (r : Tree → Rest) → Stops (Runs n l (phrase Expr (λ x. sign a (r x))) text) e)
+    (λ e. (r : Tree → Rest) → IsOutcome (Runs n l (phrase Expr (λ x. sign a (r x))) text) e)
 
 -- the arguments of a call are read
-abbrev pub ComesArguments : ℕ → ℕ → List Token → Result (List (Argument Node) × Bor (List Token)) Stop → Type 0
+abbrev pub ComesArguments : ℕ → ℕ → List Token → Result (List (Argument Node) × Bor (List Token)) Unread → Type 0
 ComesArguments n l text result = MatchResult result
     (λ u. (k : CallKind) (x : Tree) (v : List ℕ) → Runs n l (last (CallArguments k x v)) text (Good (t.Call k x v (arguments_in u.0)) u.1.now))
-    (λ e. (k : CallKind) (x : Tree) (v : List ℕ) → Stops (Runs n l (last (CallArguments k x v)) text) e)
+    (λ e. (k : CallKind) (x : Tree) (v : List ℕ) → IsOutcome (Runs n l (last (CallArguments k x v)) text) e)
 
 -- one argument is read
-abbrev pub ComesArgument : ℕ → ℕ → (CallKind → Tree → List ℕ → Arguments → Rest) → List Token → Result (Argument Node × Bor (List Token)) Stop → Type 0
+abbrev pub ComesArgument : ℕ → ℕ → (CallKind → Tree → List ℕ → Arguments → Rest) → List Token → Result (Argument Node × Bor (List Token)) Unread → Type 0
 ComesArgument n l r text result = MatchResult result
     (λ u. (k : CallKind) (x : Tree) (v : List ℕ) (xs : Arguments) (o : Outcome) →
     Runs n l (last (ArgumentMore k x v (with_argument xs u.0))) u.1.now o → Runs n l (r k x v xs) text o)
-    (λ e. (k : CallKind) (x : Tree) (v : List ℕ) (xs : Arguments) → Stops (Runs n l (r k x v xs) text) e)
+    (λ e. (k : CallKind) (x : Tree) (v : List ℕ) (xs : Arguments) → IsOutcome (Runs n l (r k x v xs) text) e)
 
 -- the elements of a collection are read
-abbrev pub ComesElements : ℕ → ℕ → List Token → Result (List Node × Bor (List Token)) Stop → Type 0
+abbrev pub ComesElements : ℕ → ℕ → List Token → Result (List Node × Bor (List Token)) Unread → Type 0
 ComesElements n l text result = MatchResult result
     (λ u. (k : CollectionKind) → Runs n l (last (Elements k)) text (Good (t.Collection k (trees_in u.0)) u.1.now))
-    (λ e. (k : CollectionKind) → Stops (Runs n l (last (Elements k)) text) e)
+    (λ e. (k : CollectionKind) → IsOutcome (Runs n l (last (Elements k)) text) e)
 
 -- the line of an argument
 abbrev pub any_argument : CallKind → Tree → List ℕ → Arguments → Rest
