@@ -1,14 +1,14 @@
 #!/usr/bin/env python3
 """Parses and prints expressions of 100 to 4,096 bytes with a proved program, and prints what each run costs.
 
-Usage, from the top of the checkout, after `(cd crates/bench_syntax && rt run)` has built the program:
+Usage, from the top of the checkout, after `(cd crates/cases_syntax && rt run)` has built the program:
     python3 bench/expressions.py
 Instructions are counted with valgrind's callgrind where it is installed; else seconds over repeated runs.
 """
 import os, tempfile
 from draw import TOP, cost
 
-PROGRAM = os.path.join(TOP, "crates/bench_syntax/out/bench_syntax")
+PROGRAM = os.path.join(TOP, "crates/cases_syntax/out/cases_syntax")
 
 
 def chain(size):

@@ -6,7 +6,7 @@ use Rattle.wb_aql_grammar.specs.Expressions.{SpellsText, Refuses}
 use Rattle.wb_aql_grammar.specs.declared.refusal.ParseRefusal.{ParseRefusal}
 use Rattle.wb_aql_grammar.specs.declared.refusal.ParseRefusal.TheVariants.{Syntax, TooDeep}
 use Rattle.wb_aql_syntax.specs.Printed.{printed}
-use Rattle.bench_syntax.specs.Shown.{Shows, spelled, wrong, deep}
+use Rattle.cases_syntax.specs.Shown.{Shows, spelled, wrong, deep}
 
 pub shows_spelling : {E : Type 0} (text : List ℕ) (x : Tree) (answer : Result (List ℕ) E) → SpellsText text x → IfOk answer (λ shown. shown ≡ printed x) → IfOk answer (Shows text)
 shows_spelling text x (Ok shown) s e = spelled x s e

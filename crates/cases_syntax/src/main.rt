@@ -2,7 +2,7 @@
 #![tactic(auto)]
 
 ghost use Rattle.std.specs.Prelude.{IfOk};
-ghost use Rattle.bench_syntax.specs.Shown.{Shows};
+ghost use Rattle.cases_syntax.specs.Shown.{Shows};
 
 use std::alloc::{AllocError, Global};
 use std::process::ExitCode;

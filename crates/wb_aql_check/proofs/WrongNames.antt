@@ -14,20 +14,22 @@ use Rattle.wb_aql_grammar.specs.declared.expr.CollectionKind.{CollectionKind}
 use Rattle.wb_aql_grammar.specs.declared.expr.Argument.{Argument}
 use Rattle.wb_aql_grammar.specs.declared.expr.Argument.TheVariants as a
 use Rattle.wb_aql_grammar.proofs.Nodes.{tree_integer, tree_text, tree_constant, tree_variable, tree_literal, tree_collection, tree_unary, tree_binary, tree_conditional, tree_let_in, tree_feature, tree_call}
-use Rattle.wb_aql_check.specs.Answers.{Answers, Refuses}
+use Rattle.wb_aql_check.specs.invariants.Walks.{Tells, IsFirst}
 use Rattle.wb_aql_check.specs.Names.{first_wrong, first_wrong_element, first_wrong_argument, unless, is_in, is_literal, is_feature, is_class, wrong_service}
 use Rattle.wb_aql_check.specs.Services.{service_named}
+use Rattle.wb_aql_check.specs.Checked.{unless_wrong, refusal_of}
+use Rattle.wb_base.specs.Answering.{AsDefined, IsRefusal}
 use Rattle.wb_aql_check.specs.declared.refusal.CheckRefusal.{CheckRefusal}
 use Rattle.wb_aql_check.specs.declared.refusal.CheckRefusal.TheVariants as r
 
 -- ---- one after another
 
 -- the first has no wrong name, so the answer is that of the rest
-pub passed : {A : Type 0} (result : Result A CheckRefusal) (first rest : Option CheckRefusal) → first ≡ None → Answers result rest → Answers result (option_or first rest)
-passed result first rest none h = subst (λ f. Answers result (option_or f rest)) (sym none) h
+pub passed : {A : Type 0} (result : Result A CheckRefusal) (first rest : Option CheckRefusal) → first ≡ None → Tells result rest → Tells result (option_or first rest)
+passed result first rest none h = subst (λ f. Tells result (option_or f rest)) (sym none) h
 
 -- what is refused of the first is refused of the whole
-pub stopped : (refusal : CheckRefusal) (first rest : Option CheckRefusal) → Refuses refusal first → Refuses refusal (option_or first rest)
+pub stopped : (refusal : CheckRefusal) (first rest : Option CheckRefusal) → IsFirst refusal first → IsFirst refusal (option_or first rest)
 stopped (r.UnknownVariable name) first rest h = ap (λ f. option_or f rest) h
 stopped (r.UnknownFeature name) first rest h = ap (λ f. option_or f rest) h
 stopped (r.UnknownService name) first rest h = ap (λ f. option_or f rest) h
@@ -36,13 +38,27 @@ stopped (r.UnknownType name) first rest h = ap (λ f. option_or f rest) h
 stopped r.NoMemory first rest h = tt
 
 -- the first has no wrong name, so what is refused of the rest is refused of the whole
-pub skipped : (refusal : CheckRefusal) (first rest : Option CheckRefusal) → first ≡ None → Refuses refusal rest → Refuses refusal (option_or first rest)
-skipped refusal first rest none h = subst (λ f. Refuses refusal (option_or f rest)) (sym none) h
+pub skipped : (refusal : CheckRefusal) (first rest : Option CheckRefusal) → first ≡ None → IsFirst refusal rest → IsFirst refusal (option_or first rest)
+skipped refusal first rest none h = subst (λ f. IsFirst refusal (option_or f rest)) (sym none) h
 
 -- a refusal that is passed on
-pub returned : {A : Type 0} (result : Result A CheckRefusal) (refusal : CheckRefusal) (first : Option CheckRefusal) → IsErrAnd result (λ other. other ≡ refusal) → Refuses refusal first → Answers result first
+pub returned : {A : Type 0} (result : Result A CheckRefusal) (refusal : CheckRefusal) (first : Option CheckRefusal) → IsErrAnd result (λ other. other ≡ refusal) → IsFirst refusal first → Tells result first
 returned (Ok x) refusal first h r = absurd h
-returned (Err other) refusal first h r = subst (λ y. Refuses y first) (sym h) r
+returned (Err other) refusal first h r = subst (λ y. IsFirst y first) (sym h) r
+
+-- the same, as what the definition gives
+pub told_refusal : {A : Type 0} (result : Result A CheckRefusal) (refusal : CheckRefusal) (first : Option CheckRefusal) (v : A) → IsErrAnd result (λ other. other ≡ refusal) →
+    IsFirst refusal first → AsDefined refusal_of (unless_wrong first v) result
+told_refusal (Ok x) refusal first v h t = absurd h
+told_refusal (Err other) refusal first v h t = subst (λ y. IsRefusal (refusal_of y) (unless_wrong first v)) (sym h) (refused refusal t)
+  where
+    refused : (refusal : CheckRefusal) → IsFirst refusal first → IsRefusal (refusal_of refusal) (unless_wrong first v)
+    refused (r.UnknownVariable name) e = ap (λ f. unless_wrong f v) e
+    refused (r.UnknownFeature name) e = ap (λ f. unless_wrong f v) e
+    refused (r.UnknownService name) e = ap (λ f. unless_wrong f v) e
+    refused (r.WrongArity name) e = ap (λ f. unless_wrong f v) e
+    refused (r.UnknownType name) e = ap (λ f. unless_wrong f v) e
+    refused r.NoMemory e = tt
 
 or_none : (first : Option CheckRefusal) → option_or first None ≡ first
 or_none None = refl

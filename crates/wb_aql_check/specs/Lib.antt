@@ -1,5 +1,5 @@
-pub mod Answers
 pub mod Checked
 pub mod Names
 pub mod Scopes
 pub mod Services
+pub mod invariants

@@ -53,7 +53,9 @@ unfoldable mutual
   knows mm scope (t.Let name x y) = knows mm scope x && knows mm (name ∷ scope) y
   knows mm scope (t.Feature x name) = knows mm scope x && is_feature mm name
   knows mm scope (t.Call kind x name xs) = knows mm scope x && (is_call kind name xs && knows_arguments mm scope xs)
-  knows mm scope _ = true
+  knows mm scope (t.Integer i) = true
+  knows mm scope (t.Text v) = true
+  knows mm scope (t.Const c) = true
 
   pub knows_elements : Metamodel → List (List ℕ) → Trees → Bool
   knows_elements mm scope t.no_trees = true
@@ -90,7 +92,9 @@ unfoldable mutual
   -- the name of a service stands behind its receiver and before its arguments
   first_wrong mm scope (t.Call kind x name xs) =
       option_or (first_wrong mm scope x) (option_or (wrong_service name xs (service_named kind name)) (first_wrong_argument mm scope xs))
-  first_wrong mm scope _ = None
+  first_wrong mm scope (t.Integer i) = None
+  first_wrong mm scope (t.Text v) = None
+  first_wrong mm scope (t.Const c) = None
 
   pub first_wrong_element : Metamodel → List (List ℕ) → Trees → Option CheckRefusal
   first_wrong_element mm scope t.no_trees = None

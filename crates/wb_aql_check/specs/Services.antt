@@ -1,5 +1,5 @@
 -- The services: how each is called, its name, and what it takes between its parentheses.
-use Rattle.std.specs.Prelude.{ℕ, Bool, true, false, ◌&&◌, List, [], ◌∷◌, Option, codes, find, bytes_eq}
+use Rattle.std.specs.Prelude.{ℕ, Bool, true, false, ◌&&◌, ◌||◌, List, [], ◌∷◌, Option, codes, find, bytes_eq}
 use Rattle.std.specs.Option.{option_map}
 use Rattle.wb_aql_grammar.specs.Tree.{Arguments}
 use Rattle.wb_aql_grammar.specs.Tree as t
@@ -69,7 +69,8 @@ services =
 abbrev pub same_kind : CallKind → CallKind → Bool
 same_kind Dot Dot = true
 same_kind Arrow Arrow = true
-same_kind _ _ = false
+same_kind Dot Arrow = false
+same_kind Arrow Dot = false
 
 -- is this service called so, by this name?
 abbrev pub is_named : CallKind → List ℕ → Row → Bool
@@ -79,12 +80,35 @@ is_named kind name row = same_kind row.kind kind && bytes_eq row.name name
 unfoldable pub service_named : CallKind → List ℕ → Option (Callee × Parameters)
 service_named kind name = option_map (λ (row : Row). (row.callee, row.parameters)) (find (is_named kind name) services)
 
+-- no argument; one type; one expression; one lambda
+abbrev pub is_nothing : Arguments → Bool
+is_nothing t.no_arguments = true
+is_nothing (t.lambda v x xs) = false
+is_nothing (t.type_named p c xs) = false
+is_nothing (t.expression x xs) = false
+
+abbrev pub is_type : Arguments → Bool
+is_type t.no_arguments = false
+is_type (t.lambda v x xs) = false
+is_type (t.type_named p c xs) = is_nothing xs
+is_type (t.expression x xs) = false
+
+abbrev pub is_value : Arguments → Bool
+is_value t.no_arguments = false
+is_value (t.lambda v x xs) = false
+is_value (t.type_named p c xs) = false
+is_value (t.expression x xs) = is_nothing xs
+
+abbrev pub is_lambda : Arguments → Bool
+is_lambda t.no_arguments = false
+is_lambda (t.lambda v x xs) = is_nothing xs
+is_lambda (t.type_named p c xs) = false
+is_lambda (t.expression x xs) = false
+
 -- are these arguments what the service takes?
 abbrev pub fits : Parameters → Arguments → Bool
-fits p.Nothing t.no_arguments = true
-fits p.MaybeType t.no_arguments = true
-fits p.MaybeType (t.type_named _ _ t.no_arguments) = true
-fits p.Type (t.type_named _ _ t.no_arguments) = true
-fits p.Value (t.expression _ t.no_arguments) = true
-fits p.Lambda (t.lambda _ _ t.no_arguments) = true
-fits _ _ = false
+fits p.Nothing xs = is_nothing xs
+fits p.MaybeType xs = is_nothing xs || is_type xs
+fits p.Type xs = is_type xs
+fits p.Value xs = is_value xs
+fits p.Lambda xs = is_lambda xs

@@ -9,18 +9,34 @@ use wb_base::{List, Text};
 use wb_metamodel::ClassId;
 
 /// What is evaluated: an expression, or all objects of a class.
-#[derive(Drop)]
 pub enum Origin {
     Expr(Expr),
     /// It stands for an expression that is absent.
     Extent(ClassId),
 }
 
+impl Drop for Origin {
+    fn drop(self) {
+        match self {
+            Origin::Expr(_expr) => {}
+            Origin::Extent(_class) => {}
+        }
+    }
+}
+
 /// What was checked, with the variables that were in scope. Contracts see the two as a pair.
-#[derive(Drop)]
 pub struct Checked {
     origin: Origin,
     scope: List<Text>,
+}
+
+impl Drop for Checked {
+    fn drop(self) {
+        let Checked {
+            origin: _origin,
+            scope: _scope,
+        } = self;
+    }
 }
 
 impl Model for Checked {

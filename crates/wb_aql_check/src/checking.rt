@@ -1,7 +1,6 @@
 ghost use Rattle.std.specs.Prelude.{◌≡◌, IfOk};
-ghost use Rattle.wb_aql_check.specs.Answers.{Answers};
-ghost use Rattle.wb_aql_check.specs.Checked.{IsChecked};
-ghost use Rattle.wb_aql_check.specs.Names.{first_wrong};
+ghost use Rattle.wb_aql_check.specs.Checked.{IsChecked, checked, refusal_of};
+ghost use Rattle.wb_base.specs.Answering.{AsDefined};
 ghost use Rattle.wb_aql_check.specs.declared.checked.Origin.TheVariants as o;
 
 use crate::checked::{Checked, Origin};
@@ -21,7 +20,7 @@ pub fn check(
     scope: &[Text],
     metamodel: &Metamodel,
 ) -> Result<Checked, CheckRefusal>
-    ensures answered { Answers result (first_wrong metamodel.now scope.now expr) }
+    ensures answered { AsDefined refusal_of (checked metamodel.now scope.now expr) result }
     ensures value { IfOk result (λ checked. checked ≡ (o.Expr expr, scope.now)) }
     ensures checked { IfOk result (λ checked. IsChecked metamodel.now checked) }
 {

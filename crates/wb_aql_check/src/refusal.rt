@@ -5,7 +5,6 @@ use std::alloc::AllocError;
 use wb_base::Text;
 
 /// The first name of an expression that is not known.
-#[derive(Debug, Drop)]
 pub enum CheckRefusal {
     /// No variable of this name is in scope.
     UnknownVariable(Text),
@@ -18,6 +17,19 @@ pub enum CheckRefusal {
     /// The class or enumeration of this name, its package or its literal is not there.
     UnknownType(Text),
     NoMemory,
+}
+
+impl Drop for CheckRefusal {
+    fn drop(self) {
+        match self {
+            CheckRefusal::UnknownVariable(_name) => {}
+            CheckRefusal::UnknownFeature(_name) => {}
+            CheckRefusal::UnknownService(_name) => {}
+            CheckRefusal::WrongArity(_name) => {}
+            CheckRefusal::UnknownType(_name) => {}
+            CheckRefusal::NoMemory => {}
+        }
+    }
 }
 
 impl From<AllocError> for CheckRefusal {

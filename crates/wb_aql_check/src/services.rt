@@ -5,7 +5,7 @@ ghost use Rattle.wb_aql_grammar.specs.declared.expr.CallKind.TheVariants.{Dot, A
 use wb_aql_syntax::CallKind;
 
 /// A service that takes no lambda. Those up to `StartsWith` are called by `.`, the others by `->`.
-#[derive(Clone, Copy, Debug, PartialEq, Eq)]
+#[derive(Clone, Copy)]
 pub enum Service {
     EContainer,
     EContents,
@@ -36,7 +36,7 @@ pub enum Service {
 }
 
 /// A service that takes a lambda. Each is called by `->`.
-#[derive(Clone, Copy, Debug, PartialEq, Eq)]
+#[derive(Clone, Copy)]
 pub enum Iteration {
     Select,
     Reject,
@@ -47,14 +47,14 @@ pub enum Iteration {
 }
 
 /// What a service's name stands for.
-#[derive(Clone, Copy, Debug, PartialEq, Eq)]
+#[derive(Clone, Copy)]
 pub enum Callee {
     Service(Service),
     Iteration(Iteration),
 }
 
 /// What a service takes between its parentheses.
-#[derive(Clone, Copy, Debug, PartialEq, Eq)]
+#[derive(Clone, Copy)]
 pub enum Parameters {
     Nothing,
     /// Nothing or one type.

@@ -1,6 +1,6 @@
 ghost use Rattle.std.specs.Prelude.{◌≡◌};
 ghost use Rattle.wb_aql_grammar.specs.View.{arguments_in};
-ghost use Rattle.wb_aql_check.specs.Answers.{Answers};
+ghost use Rattle.wb_aql_check.specs.invariants.Walks.{Tells};
 ghost use Rattle.wb_aql_check.specs.Names.{is_in, is_feature, is_class, is_literal, unless, wrong_service};
 ghost use Rattle.wb_aql_check.specs.Scopes.{names_of};
 ghost use Rattle.wb_aql_check.specs.Services.{service_named};
@@ -18,7 +18,7 @@ use wb_base::{Duplicate, Text};
 use wb_metamodel::Metamodel;
 
 pub fn check_variable(alloc: Global, scope: &Scope<'_>, name: &Text) -> Result<(), CheckRefusal>
-    ensures { Answers result (unless (is_in (names_of scope.now) name.now) (UnknownVariable name.now)) }
+    ensures { Tells result (unless (is_in (names_of scope.now) name.now) (UnknownVariable name.now)) }
 {
     if is_in_scope(scope, name) {
         return Ok(());
@@ -33,7 +33,7 @@ pub fn check_literal(
     enumeration: &Text,
     literal: &Text,
 ) -> Result<(), CheckRefusal>
-    ensures { Answers result (unless (is_literal metamodel.now owner.now enumeration.now literal.now) (UnknownType enumeration.now)) }
+    ensures { Tells result (unless (is_literal metamodel.now owner.now enumeration.now literal.now) (UnknownType enumeration.now)) }
 {
     if is_literal(metamodel, owner, enumeration, literal) {
         return Ok(());
@@ -47,7 +47,7 @@ pub fn check_class(
     owner: &Text,
     class: &Text,
 ) -> Result<(), CheckRefusal>
-    ensures { Answers result (unless (is_class metamodel.now owner.now class.now) (UnknownType class.now)) }
+    ensures { Tells result (unless (is_class metamodel.now owner.now class.now) (UnknownType class.now)) }
 {
     if is_class(metamodel, owner, class) {
         return Ok(());
@@ -56,7 +56,7 @@ pub fn check_class(
 }
 
 pub fn check_feature(alloc: Global, metamodel: &Metamodel, name: &Text) -> Result<(), CheckRefusal>
-    ensures { Answers result (unless (is_feature metamodel.now name.now) (UnknownFeature name.now)) }
+    ensures { Tells result (unless (is_feature metamodel.now name.now) (UnknownFeature name.now)) }
 {
     if is_feature(metamodel, name) {
         return Ok(());
@@ -70,7 +70,7 @@ pub fn check_service(
     name: &Text,
     arguments: &Items<Argument<Boxed<Node>>>,
 ) -> Result<(), CheckRefusal>
-    ensures { Answers result (wrong_service name.now (arguments_in arguments.now) (service_named kind name.now)) }
+    ensures { Tells result (wrong_service name.now (arguments_in arguments.now) (service_named kind name.now)) }
 {
     match service_named(kind, name.as_slice()) {
         None => Err(CheckRefusal::UnknownService(name.copy(alloc)?)),

@@ -1,6 +1,6 @@
 ghost use Rattle.std.specs.Prelude.{◌≡◌, ◌∷◌, []};
 ghost use Rattle.wb_aql_grammar.specs.View.{tree_of, trees_in, arguments_in};
-ghost use Rattle.wb_aql_check.specs.Answers.{Answers};
+ghost use Rattle.wb_aql_check.specs.invariants.Walks.{Tells};
 ghost use Rattle.wb_aql_check.specs.Names.{first_wrong, first_wrong_element, first_wrong_argument};
 ghost use Rattle.wb_aql_check.specs.Scopes.{names_of};
 
@@ -21,7 +21,7 @@ pub fn check_node<'a>(
     scope: &'a Scope<'a>,
     node: &'a Node,
 ) -> Result<(), CheckRefusal>
-    ensures { Answers result (first_wrong metamodel.now (names_of scope.now) (tree_of node.now)) }
+    ensures { Tells result (first_wrong metamodel.now (names_of scope.now) (tree_of node.now)) }
 {
     match node {
         Node::Integer(_) => Ok(()),
@@ -65,7 +65,7 @@ fn check_elements<'a>(
     scope: &'a Scope<'a>,
     elements: &'a Items<Node>,
 ) -> Result<(), CheckRefusal>
-    ensures { Answers result (first_wrong_element metamodel.now (names_of scope.now) (trees_in elements.now)) }
+    ensures { Tells result (first_wrong_element metamodel.now (names_of scope.now) (trees_in elements.now)) }
 {
     for element in elements.as_slice() {
         check_node(alloc, metamodel, scope, element)?;
@@ -80,7 +80,7 @@ fn check_arguments<'a>(
     scope: &'a Scope<'a>,
     arguments: &'a Items<Argument<Boxed<Node>>>,
 ) -> Result<(), CheckRefusal>
-    ensures { Answers result (first_wrong_argument metamodel.now (names_of scope.now) (arguments_in arguments.now)) }
+    ensures { Tells result (first_wrong_argument metamodel.now (names_of scope.now) (arguments_in arguments.now)) }
 {
     for argument in arguments.as_slice() {
         check_argument(alloc, metamodel, scope, argument)?;
@@ -95,7 +95,7 @@ fn check_argument<'a>(
     scope: &'a Scope<'a>,
     argument: &'a Argument<Boxed<Node>>,
 ) -> Result<(), CheckRefusal>
-    ensures { Answers result (first_wrong_argument metamodel.now (names_of scope.now) (arguments_in (argument.now ∷ []))) }
+    ensures { Tells result (first_wrong_argument metamodel.now (names_of scope.now) (arguments_in (argument.now ∷ []))) }
 {
     match argument {
         Argument::Lambda(variable, body) => {

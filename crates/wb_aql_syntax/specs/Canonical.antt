@@ -50,7 +50,12 @@ whole_of b.Add = at.Sum
 whole_of b.Subtract = at.Sum
 whole_of b.Multiply = at.Term
 whole_of b.Divide = at.Term
-whole_of _ = at.Cmp
+whole_of b.Equal = at.Cmp
+whole_of b.NotEqual = at.Cmp
+whole_of b.Less = at.Cmp
+whole_of b.LessEqual = at.Cmp
+whole_of b.Greater = at.Cmp
+whole_of b.GreaterEqual = at.Cmp
 
 abbrev pub left_of : BinaryOperator → Tightness
 left_of b.Implies = at.Implies
@@ -59,7 +64,14 @@ left_of b.Xor = at.Xor
 left_of b.And = at.And
 left_of b.Multiply = at.Term
 left_of b.Divide = at.Term
-left_of _ = at.Sum
+left_of b.Equal = at.Sum
+left_of b.NotEqual = at.Sum
+left_of b.Less = at.Sum
+left_of b.LessEqual = at.Sum
+left_of b.Greater = at.Sum
+left_of b.GreaterEqual = at.Sum
+left_of b.Add = at.Sum
+left_of b.Subtract = at.Sum
 
 abbrev pub right_of : BinaryOperator → Tightness
 right_of b.Implies = at.Or
@@ -70,7 +82,12 @@ right_of b.Add = at.Term
 right_of b.Subtract = at.Term
 right_of b.Multiply = at.Unary
 right_of b.Divide = at.Unary
-right_of _ = at.Sum
+right_of b.Equal = at.Sum
+right_of b.NotEqual = at.Sum
+right_of b.Less = at.Sum
+right_of b.LessEqual = at.Sum
+right_of b.Greater = at.Sum
+right_of b.GreaterEqual = at.Sum
 
 -- that of a prefix operator, and of its operand
 abbrev pub prefix_of : UnaryOperator → Tightness
@@ -84,7 +101,13 @@ tightness (t.Binary o x y) = whole_of o
 tightness (t.Let v x y) = at.Expr
 tightness (t.Feature x v) = at.Post
 tightness (t.Call k x v xs) = at.Post
-tightness _ = at.Atom
+tightness (t.Integer i) = at.Atom
+tightness (t.Text v) = at.Atom
+tightness (t.Const c) = at.Atom
+tightness (t.Variable v) = at.Atom
+tightness (t.Literal p e l) = at.Atom
+tightness (t.Collection k xs) = at.Atom
+tightness (t.If x y z) = at.Atom
 
 -- ---- the tokens, and the blanks between them
 
@@ -203,7 +226,11 @@ unfoldable mutual
   openings_of (t.Let v x y) = suc (max (openings_of x) (openings_of y))
   openings_of (t.Feature x v) = standing_openings at.Post x (openings_of x)
   openings_of (t.Call d x v xs) = max (standing_openings at.Post x (openings_of x)) (suc (argument_openings xs))
-  openings_of _ = 0
+  openings_of (t.Integer i) = 0
+  openings_of (t.Text v) = 0
+  openings_of (t.Const c) = 0
+  openings_of (t.Variable v) = 0
+  openings_of (t.Literal p e l) = 0
 
   pub element_openings : Trees → ℕ
   element_openings t.no_trees = 0
@@ -224,7 +251,11 @@ unfoldable mutual
   lambdas_of (t.Let v x y) = max (lambdas_of x) (lambdas_of y)
   lambdas_of (t.Feature x v) = lambdas_of x
   lambdas_of (t.Call d x v xs) = max (lambdas_of x) (argument_lambdas xs)
-  lambdas_of _ = 0
+  lambdas_of (t.Integer i) = 0
+  lambdas_of (t.Text v) = 0
+  lambdas_of (t.Const c) = 0
+  lambdas_of (t.Variable v) = 0
+  lambdas_of (t.Literal p e l) = 0
 
   pub element_lambdas : Trees → ℕ
   element_lambdas t.no_trees = 0

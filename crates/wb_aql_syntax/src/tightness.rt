@@ -6,7 +6,7 @@ use wb_aql_grammar::{Binary, Node, Unary};
 
 /// The phrases of the grammar that an operand can be, from the loosest to the tightest: each is also
 /// one of those before it.
-#[derive(Clone, Copy, Debug, PartialEq, Eq)]
+#[derive(Clone, Copy)]
 pub enum Tightness {
     Expr,
     Implies,
@@ -93,7 +93,12 @@ pub fn whole_of(operator: Binary) -> Tightness
         Binary::And => Tightness::And,
         Binary::Add | Binary::Subtract => Tightness::Sum,
         Binary::Multiply | Binary::Divide => Tightness::Term,
-        _ => Tightness::Cmp,
+        Binary::Equal
+        | Binary::NotEqual
+        | Binary::Less
+        | Binary::LessEqual
+        | Binary::Greater
+        | Binary::GreaterEqual => Tightness::Cmp,
     }
 }
 
@@ -107,7 +112,14 @@ pub fn left_of(operator: Binary) -> Tightness
         Binary::Xor => Tightness::Xor,
         Binary::And => Tightness::And,
         Binary::Multiply | Binary::Divide => Tightness::Term,
-        _ => Tightness::Sum,
+        Binary::Equal
+        | Binary::NotEqual
+        | Binary::Less
+        | Binary::LessEqual
+        | Binary::Greater
+        | Binary::GreaterEqual
+        | Binary::Add
+        | Binary::Subtract => Tightness::Sum,
     }
 }
 
@@ -122,6 +134,11 @@ pub fn right_of(operator: Binary) -> Tightness
         Binary::And => Tightness::Neg,
         Binary::Add | Binary::Subtract => Tightness::Term,
         Binary::Multiply | Binary::Divide => Tightness::Unary,
-        _ => Tightness::Sum,
+        Binary::Equal
+        | Binary::NotEqual
+        | Binary::Less
+        | Binary::LessEqual
+        | Binary::Greater
+        | Binary::GreaterEqual => Tightness::Sum,
     }
 }

@@ -4,7 +4,7 @@ use Rattle.std.specs.Option.{option_or}
 use Rattle.wb_aql_grammar.specs.View.{tree_of, trees_in, arguments_in}
 use Rattle.wb_aql_grammar.proofs.Nodes.{tree_collection, tree_unary, tree_binary, tree_conditional, tree_let_in, tree_feature, tree_call}
 use Rattle.wb_aql_grammar.proofs.Weights.{weight, elements_weight, arguments_weight, next_element, next_argument}
-use Rattle.wb_aql_check.specs.Answers.{Refuses}
+use Rattle.wb_aql_check.specs.invariants.Walks.{IsFirst}
 use Rattle.wb_aql_check.specs.Names.{first_wrong_element, first_wrong_argument}
 use Rattle.wb_aql_check.specs.Scopes.{names_of}
 use Rattle.wb_aql_check.proofs.ScopeNames.{names_inner}
@@ -223,7 +223,7 @@ check_elements-returns-in_err-check_node t c =
     let scope = names_of c.args.scope.now in
     let step = ap (λ ys. first_wrong_element mm scope (trees_in ys)) here ∙ element_first mm scope x (drop (l.element-index + 1) xs) in
     let all = sym step ∙ (l.invariant ∙ ap (λ ys. first_wrong_element mm scope (trees_in ys)) c.as_slice-element-items.ensures) in
-    returned c.from_residual.result c.in_err-check_node.field-0.0 _ c.from_residual.ensures.1 (subst (λ f. Refuses c.in_err-check_node.field-0.0 f) all (stopped _ _ _ c.in_err-check_node.ensures))
+    returned c.from_residual.result c.in_err-check_node.field-0.0 _ c.from_residual.ensures.1 (subst (λ f. IsFirst c.in_err-check_node.field-0.0 f) all (stopped _ _ _ c.in_err-check_node.ensures))
 
 -- ---- arguments
 
@@ -267,4 +267,4 @@ check_arguments-returns-in_err-check_argument t c =
     let scope = names_of c.args.scope.now in
     let step = ap (λ ys. first_wrong_argument mm scope (arguments_in ys)) here ∙ argument_first mm scope x (drop (l.argument-index + 1) xs) in
     let all = sym step ∙ (l.invariant ∙ ap (λ ys. first_wrong_argument mm scope (arguments_in ys)) c.as_slice-argument-items.ensures) in
-    returned c.from_residual.result c.in_err-check_argument.field-0.0 _ c.from_residual.ensures.1 (subst (λ f. Refuses c.in_err-check_argument.field-0.0 f) all (stopped _ _ _ c.in_err-check_argument.ensures))
+    returned c.from_residual.result c.in_err-check_argument.field-0.0 _ c.from_residual.ensures.1 (subst (λ f. IsFirst c.in_err-check_argument.field-0.0 f) all (stopped _ _ _ c.in_err-check_argument.ensures))

@@ -1,0 +1,2 @@
+-- What the walk over the parts of an expression leaves.
+pub mod Walks
