@@ -9,11 +9,11 @@ use Rattle.wb_ecore.specs.declared.document.ClassPart.{ClassPart}
 use Rattle.wb_ecore.specs.declared.document.FeaturePart.{FeaturePart}
 use Rattle.wb_ecore.specs.declared.index.ClassFeatures.{ClassFeatures}
 use Rattle.wb_ecore.specs.Naming.{same_name}
-use Rattle.wb_ecore.specs.Names.{number_of}
+use Rattle.wb_ecore.specs.invariants.NumberedNames.{number_of}
 use Rattle.wb_ecore.specs.Resolving.{class_number, numbered, own_feature}
-use Rattle.wb_ecore.specs.Index.{HasOwn}
-use Rattle.wb_ecore.proofs.Positions.{position-Some}
-use Rattle.wb_ecore.proofs.Zips.{zip-length, zip-at}
+use Rattle.wb_ecore.specs.invariants.Index.{HasOwn}
+use Rattle.wb_base.proofs.Positions.{position-Some}
+use Rattle.wb_base.proofs.Zips.{zip-length, zip-at}
 
 pub class-number-known : (document : Document) (name : List ℕ) (c : ℕ) → class_number document name ≡ Some c → c < length document.classes
 class-number-known document name c h =

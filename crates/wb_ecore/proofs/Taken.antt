@@ -9,9 +9,9 @@ use Rattle.std.proofs.lemmas.Option.{slice_get_read}
 use Rattle.std.specs.List.{list_any, find, range_with_len}
 use Rattle.std.specs.Option.{option_or, option_map_or}
 use Rattle.wb_json.specs.Place.{Place, at_index}
-use Rattle.wb_ecore.specs.declared.names.Names.{Names}
+use Rattle.wb_ecore.specs.declared.numbered_names.NumberedNames.{NumberedNames}
 use Rattle.wb_ecore.specs.Naming.{same_name, numbers}
-use Rattle.wb_ecore.specs.Names.{number_of, fresh_in, Takes, Holds}
+use Rattle.wb_ecore.specs.invariants.NumberedNames.{number_of, fresh_in, GainsName, Holds}
 use Rattle.wb_ecore.specs.Repeats.{◌>>=◌, each_from, fresh, repeats}
 
 either : (o : Option ℕ) (b : Bool) (n : ℕ) → is_some (option_or o (cond b (Some n) None)) ≡ (is_some o || b)
@@ -19,7 +19,7 @@ either None true n = refl
 either None false n = refl
 either (Some x) b n = refl
 
-pub added : (old new : Names) (name : List ℕ) (n : ℕ) → ((other : List ℕ) → number_of new other ≡ option_or (number_of old other) (cond (same_name name other) (Some n) None)) → Takes old name new
+pub added : (old new : NumberedNames) (name : List ℕ) (n : ℕ) → ((other : List ℕ) → number_of new other ≡ option_or (number_of old other) (cond (same_name name other) (Some n) None)) → GainsName old name new
 added old new name n h = λ other. ap is_some (h other) ∙ either (number_of old other) (same_name name other) n
 
 or-assoc : (a b c : Bool) → ((a || b) || c) ≡ (a || (b || c))
@@ -31,7 +31,7 @@ or-none true = refl
 or-none false = refl
 
 -- one more name
-pub holds-push : (old new : Names) (all : List (List ℕ)) (name : List ℕ) → Holds old all → Takes old name new → Holds new (all ++ name ∷ [])
+pub holds-push : (old new : NumberedNames) (all : List (List ℕ)) (name : List ℕ) → Holds old all → GainsName old name new → Holds new (all ++ name ∷ [])
 holds-push old new all name held takes = λ other.
     takes other
     ∙ ap (λ b. b || same_name name other) (held other)
@@ -43,7 +43,7 @@ map-push f [] x = refl
 map-push f (y ∷ ys) x = ap (λ zs. f y ∷ zs) (map-push f ys x)
 
 -- one more of a list that is walked
-pub holds-more : {X : Type 0} (f : X → List ℕ) (front : List (List ℕ)) (xs : List X) (i : ℕ) (x : X) (old new : Names) → Holds old (front ++ map f (take i xs)) → Takes old (f x) new → i < length xs → x ≡ get_or xs i x
+pub holds-more : {X : Type 0} (f : X → List ℕ) (front : List (List ℕ)) (xs : List X) (i : ℕ) (x : X) (old new : NumberedNames) → Holds old (front ++ map f (take i xs)) → GainsName old (f x) new → i < length xs → x ≡ get_or xs i x
     → Holds new (front ++ map f (take (i + 1) xs))
 holds-more f front xs i x old new held takes l e =
     subst (Holds new)
@@ -52,7 +52,7 @@ holds-more f front xs i x old new held takes l e =
     (holds-push old new (front ++ map f (take i xs)) (f x) held takes)
 
 -- a name that is not taken stands nowhere earlier
-pub not-repeated : {X : Type 0} (f : X → List ℕ) (xs : List X) (i : ℕ) (x : X) (taken : Names) → Holds taken (map f (take i xs)) → i < length xs → x ≡ get_or xs i x → repeats f xs i ≡ is_some (number_of taken (f x))
+pub not-repeated : {X : Type 0} (f : X → List ℕ) (xs : List X) (i : ℕ) (x : X) (taken : NumberedNames) → Holds taken (map f (take i xs)) → i < length xs → x ≡ get_or xs i x → repeats f xs i ≡ is_some (number_of taken (f x))
 not-repeated f xs i x taken held l e =
     ap (λ o. option_map_or (λ y. list_any (same_name (f y)) (map f (take i xs))) o false) (slice_get_read xs (length xs) i x refl l e) ∙ sym (held (f x))
 
@@ -75,7 +75,7 @@ pub each-stops : {A : Type 0} (check : ℕ → A → Result ⊤ Place) (xs : Lis
 each-stops check xs i x whole place l e wrong so_far =
     so_far ∙ ap (each_from check i) (drop_more xs i x l ∙ ap (λ v. v ∷ drop (i + 1) xs) (sym e)) ∙ ap (λ r. r >>= (λ _. each_from check (i + 1) (drop (i + 1) xs))) wrong
 
-pub fresh-same : (taken : Names) (all : List (List ℕ)) (name : List ℕ) → Holds taken all → fresh_in taken name ≡ fresh all name
+pub fresh-same : (taken : NumberedNames) (all : List (List ℕ)) (name : List ℕ) → Holds taken all → fresh_in taken name ≡ fresh all name
 fresh-same taken all name held = ap (λ b. cond b (Err []) (Ok tt)) (held name)
 
 pub find-start : (p : ℕ → Bool) (n : ℕ) → find p (numbers n) ≡ find p (range_with_len 0 (n - 0))

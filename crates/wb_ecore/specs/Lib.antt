@@ -1,6 +1,6 @@
+pub mod Codes
 pub mod Document
-pub mod Index
-pub mod Names
 pub mod Naming
 pub mod Repeats
 pub mod Resolving
+pub mod invariants

@@ -3,19 +3,13 @@
 use Rattle.std.specs.Prelude.{⊤, ℕ, ◌+◌, Bool, false, if◌then◌else◌, List, [], ◌∷◌, ◌++◌, length, map, find, take, slice_get, Result, Ok, Err, codes}
 use Rattle.std.specs.Option.{option_map_or}
 use Rattle.std.specs.List.{list_any}
+pub use Rattle.wb_base.specs.Results.{◌>>=◌}
 use Rattle.wb_json.specs.Place.{Place, at_member, at_index}
 use Rattle.wb_ecore.specs.declared.document.Document.{Document}
 use Rattle.wb_ecore.specs.declared.document.EnumPart.{EnumPart}
 use Rattle.wb_ecore.specs.declared.document.ClassPart.{ClassPart}
 use Rattle.wb_ecore.specs.declared.document.FeaturePart.{FeaturePart}
-use Rattle.wb_ecore.specs.declared.names.Names.{Names}
-use Rattle.wb_ecore.specs.Names.{fresh_in}
 use Rattle.wb_ecore.specs.Naming.{same_name, numbers}
-
-infixl 20 ◌>>=◌
-abbrev pub ◌>>=◌ : {A B E : Type 0} → Result A E → (A → Result B E) → Result B E
-(Ok v) >>= next = next v
-(Err e) >>= next = Err e
 
 -- ---- walks
 
@@ -47,8 +41,8 @@ abbrev pub unrepeated_features : List FeaturePart → Result ⊤ Place
 unrepeated_features parts = none_is (repeats (λ (part : FeaturePart). part.name) parts) (λ i. at_index i (at_member (codes "name") (Err []))) (numbers (length parts))
 
 -- the names that kinds have
-abbrev pub reserved : List (List ℕ)
-reserved = codes "Int" ∷ codes "Bool" ∷ codes "Text" ∷ []
+abbrev pub kind_names : List (List ℕ)
+kind_names = codes "Int" ∷ codes "Bool" ∷ codes "Text" ∷ []
 
 abbrev pub enum_names : List EnumPart → List (List ℕ)
 enum_names parts = map (λ (part : EnumPart). part.name) parts
@@ -57,21 +51,11 @@ abbrev pub class_names : List ClassPart → List (List ℕ)
 class_names parts = map (λ (part : ClassPart). part.name) parts
 
 abbrev pub check_enum_names : List EnumPart → ℕ → EnumPart → Result ⊤ Place
-check_enum_names parts i part = at_member (codes "name") (fresh (reserved ++ enum_names (take i parts)) part.name) >>= (λ _. at_member (codes "literals") (unrepeated part.literals))
+check_enum_names parts i part = at_member (codes "name") (fresh (kind_names ++ enum_names (take i parts)) part.name) >>= (λ _. at_member (codes "literals") (unrepeated part.literals))
 
 abbrev pub check_class_names : List EnumPart → List ClassPart → ℕ → ClassPart → Result ⊤ Place
 check_class_names enums parts i part = do
-  _ ← at_member (codes "name") (fresh (reserved ++ enum_names enums ++ class_names (take i parts)) part.name)
-  _ ← at_member (codes "supertypes") (unrepeated part.supertypes)
-  at_member (codes "features") (unrepeated_features part.features)
-
--- the same checks, by the names that are taken
-abbrev pub enum_names_in : Names → EnumPart → Result ⊤ Place
-enum_names_in taken part = at_member (codes "name") (fresh_in taken part.name) >>= (λ _. at_member (codes "literals") (unrepeated part.literals))
-
-abbrev pub class_names_in : Names → ClassPart → Result ⊤ Place
-class_names_in taken part = do
-  _ ← at_member (codes "name") (fresh_in taken part.name)
+  _ ← at_member (codes "name") (fresh (kind_names ++ enum_names enums ++ class_names (take i parts)) part.name)
   _ ← at_member (codes "supertypes") (unrepeated part.supertypes)
   at_member (codes "features") (unrepeated_features part.features)
 

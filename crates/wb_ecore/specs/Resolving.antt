@@ -4,7 +4,7 @@ use Rattle.std.specs.List.{flat_map, enumerate_from}
 use Rattle.wb_json.specs.Place.{Place, at_member, at_index}
 use Rattle.wb_json.specs.Form.{◌>>=◌, in_turn, or_wrong}
 use Rattle.wb_ecore.specs.declared.classes.Enumeration.{Enumeration}
-use Rattle.wb_ecore.specs.declared.content.Content.{Content}
+use Rattle.wb_ecore.specs.declared.packages.Package.{Package}
 use Rattle.wb_ecore.specs.declared.features.Feature.{Feature}
 use Rattle.wb_ecore.specs.declared.features.Kind.{Kind}
 use Rattle.wb_ecore.specs.declared.features.Kind.TheVariants.{Int, Bool as BoolKind, Text, Enum, Reference}
@@ -72,8 +72,8 @@ abbrev pub enumeration_of : EnumPart → Enumeration
 enumeration_of part = record { name = part.name; literals = part.literals }
 
 -- what a document says, with the classes that its names name
-abbrev pub content_of : Document → List ResolvedClass → Content
-content_of document classes = record {
+abbrev pub package_of : Document → List ResolvedClass → Package
+package_of document classes = record {
   package_name = document.package_name;
   classes = map (λ (c : ResolvedClass). c.class) classes;
   features = flat_map (λ (c : ResolvedClass). c.features) classes;
@@ -81,5 +81,5 @@ content_of document classes = record {
 }
 
 -- the metamodel that a document stands for, where every name names something
-unfoldable pub resolved : Document → Result Content Place
-resolved document = at_member (codes "classes") (walked (class_resolved document) (enumerate_from 0 document.classes)) >>= (λ classes. Ok (content_of document classes))
+unfoldable pub resolved : Document → Result Package Place
+resolved document = at_member (codes "classes") (walked (class_resolved document) (enumerate_from 0 document.classes)) >>= (λ classes. Ok (package_of document classes))

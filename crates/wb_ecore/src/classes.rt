@@ -3,7 +3,7 @@ use std::alloc::{AllocError, Global};
 use wb_base::{Duplicate, List, Text};
 
 /// A class: its name, whether it is abstract, and its direct supertypes in order.
-#[derive(Debug, Drop)]
+#[derive(Drop)]
 pub struct Class {
     pub name: Text,
     pub is_abstract: bool,
@@ -11,7 +11,7 @@ pub struct Class {
 }
 
 /// An enumeration: its name and its literals in order.
-#[derive(Debug, Drop)]
+#[derive(Drop)]
 pub struct Enumeration {
     pub name: Text,
     pub literals: List<Text>,

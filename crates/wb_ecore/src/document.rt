@@ -8,11 +8,20 @@ use wb_base::List;
 use wb_json::{Form, Name, Value, Wrong, has, list_or_empty, listed, needed, optional};
 
 /// A metamodel's document, whose names need not name anything yet.
-#[derive(Drop)]
 pub struct Document {
     pub package_name: Name,
     pub enums: List<EnumPart>,
     pub classes: List<ClassPart>,
+}
+
+impl Drop for Document {
+    fn drop(self) {
+        let Document {
+            package_name: _package_name,
+            enums: _enums,
+            classes: _classes,
+        } = self;
+    }
 }
 
 #[derive(Drop)]
@@ -21,7 +30,6 @@ pub struct EnumPart {
     pub literals: List<Name>,
 }
 
-#[derive(Drop)]
 pub struct ClassPart {
     pub name: Name,
     pub is_abstract: bool,
@@ -29,19 +37,47 @@ pub struct ClassPart {
     pub features: List<FeaturePart>,
 }
 
-#[derive(Drop)]
+impl Drop for ClassPart {
+    fn drop(self) {
+        let ClassPart {
+            name: _name,
+            is_abstract: _,
+            supertypes: _supertypes,
+            features: _features,
+        } = self;
+    }
+}
+
 pub struct FeaturePart {
     pub name: Name,
     pub many: bool,
     pub target: Target,
 }
 
+impl Drop for FeaturePart {
+    fn drop(self) {
+        let FeaturePart {
+            name: _name,
+            many: _,
+            target: _target,
+        } = self;
+    }
+}
+
 /// What a feature holds.
-#[derive(Drop)]
 pub enum Target {
     /// The values of an attribute: a word for a kind, or an enumeration's name.
     Values(Name),
     Objects(ReferencePart),
+}
+
+impl Drop for Target {
+    fn drop(self) {
+        match self {
+            Target::Values(_name) => {}
+            Target::Objects(_reference) => {}
+        }
+    }
 }
 
 /// What the objects of a reference are.

@@ -17,7 +17,7 @@ pub enum Kind {
 }
 
 /// An attribute or a reference of a class.
-#[derive(Debug, Drop)]
+#[derive(Drop)]
 pub struct Feature {
     pub name: Text,
     /// The class that declares it.

@@ -3,29 +3,38 @@ ghost use Rattle.wb_ecore.specs.Resolving.{class_number, enum_number, own_featur
 
 use crate::document::{ClassPart, Document};
 use crate::features::Kind;
-use crate::names::Names;
+use crate::numbered_names::NumberedNames;
 use crate::numbers::{ClassId, EnumId, FeatureId};
 use std::alloc::{AllocError, Global};
 use wb_json::Name;
 
 /// A document's names with their numbers.
-#[derive(Drop)]
 pub struct Index {
-    classes: Names,
-    enums: Names,
+    classes: NumberedNames,
+    enums: NumberedNames,
     features: Vec<ClassFeatures>,
+}
+
+impl Drop for Index {
+    fn drop(self) {
+        let Index {
+            classes: _classes,
+            enums: _enums,
+            features: _features,
+        } = self;
+    }
 }
 
 /// A class's own features: the number of the first, and their names.
 #[derive(Drop)]
 pub struct ClassFeatures {
     first: u32,
-    names: Names,
+    names: NumberedNames,
 }
 
 ghost use Rattle.std.specs.Option.{SomeIff};
 ghost use Rattle.std.specs.List.{AllZip};
-ghost use Rattle.wb_ecore.specs.Index.{Indexes, HasOwn};
+ghost use Rattle.wb_ecore.specs.invariants.Index.{Indexes, HasOwn};
 
 impl Index {
     /// The numbers of a document. A count that no `u32` holds is taken as want of memory.
@@ -36,8 +45,8 @@ impl Index {
             return Err(AllocError);
         }
         Ok(Index {
-            classes: Names::of(alloc, document.classes.as_slice())?,
-            enums: Names::of(alloc, document.enums.as_slice())?,
+            classes: NumberedNames::of(alloc, document.classes.as_slice())?,
+            enums: NumberedNames::of(alloc, document.enums.as_slice())?,
             features: class_features(alloc, document.classes.as_slice())?,
         })
     }
@@ -102,7 +111,7 @@ fn class_features(alloc: Global, classes: &[ClassPart]) -> Result<Vec<ClassFeatu
         let Some(next) = next_first(first, class.features.len()) else {
             return Err(AllocError);
         };
-        let names = Names::of(alloc, class.features.as_slice())?;
+        let names = NumberedNames::of(alloc, class.features.as_slice())?;
         features.push(ClassFeatures { first, names })?;
         first = next;
     }

@@ -5,7 +5,7 @@ use std::marker::Model;
 use wb_base::Duplicate;
 
 /// The number of a class: its place in the document, from 0.
-#[derive(Clone, Copy, Debug, PartialEq, Eq, PartialOrd, Ord, Hash)]
+#[derive(Clone, Copy, Debug, PartialEq, Eq, Hash)]
 pub struct ClassId(pub u32);
 
 impl Model for ClassId {
@@ -17,7 +17,7 @@ impl Model for ClassId {
 }
 
 /// The number of a feature: its place in the document, counted over all classes, from 0.
-#[derive(Clone, Copy, Debug, PartialEq, Eq, PartialOrd, Ord, Hash)]
+#[derive(Clone, Copy, Debug, PartialEq, Eq, Hash)]
 pub struct FeatureId(pub u32);
 
 impl Model for FeatureId {
@@ -29,7 +29,7 @@ impl Model for FeatureId {
 }
 
 /// The number of an enumeration: its place in the document, from 0.
-#[derive(Clone, Copy, Debug, PartialEq, Eq, PartialOrd, Ord, Hash)]
+#[derive(Clone, Copy, Debug, PartialEq, Eq, Hash)]
 pub struct EnumId(pub u32);
 
 impl Model for EnumId {

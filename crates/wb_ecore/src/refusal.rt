@@ -1,8 +1,7 @@
 ghost use Rattle.std.specs.Prelude.{◌≡◌};
-ghost use Rattle.wb_ecore.specs.declared.refusal.MetamodelRefusal.TheVariants.{NoMemory};
+ghost use Rattle.wb_ecore.specs.Codes.{code_number};
 
-use std::alloc::{AllocError, AllocFailed};
-use wb_base::Text;
+use wb_json::FileRefusal;
 
 /// What is wrong with a metamodel's text.
 #[derive(Clone, Copy, Debug, PartialEq, Eq)]
@@ -16,26 +15,14 @@ pub enum MetamodelCode {
     TooMany = 7,
 }
 
+impl MetamodelCode {
+    /// The number of the code, from 1 to 7.
+    pub fn number(self) -> u8
+        ensures { result ≡ code_number self }
+    {
+        self as u8
+    }
+}
+
 /// Why there is no metamodel.
-#[derive(Debug, Drop)]
-pub enum MetamodelRefusal {
-    /// What is wrong, and its place: `#` and a JSON Pointer (RFC 6901).
-    At(MetamodelCode, Text),
-    NoMemory,
-}
-
-impl From<AllocError> for MetamodelRefusal {
-    ghost from_gives = { λ _ refusal. refusal ≡ NoMemory };
-
-    fn from(_error: AllocError) -> MetamodelRefusal {
-        MetamodelRefusal::NoMemory
-    }
-}
-
-impl<T: Drop> From<AllocFailed<T>> for MetamodelRefusal {
-    ghost from_gives = { λ _ refusal. refusal ≡ NoMemory };
-
-    fn from(_failed: AllocFailed<T>) -> MetamodelRefusal {
-        MetamodelRefusal::NoMemory
-    }
-}
+pub type MetamodelRefusal = FileRefusal<MetamodelCode>;

@@ -2,11 +2,12 @@ ghost use Rattle.std.specs.Prelude.{◌≡◌, ◌||◌, ℕ, List, [], ◌∷�
 ghost use Rattle.wb_json.specs.Form.{Gives};
 ghost use Rattle.wb_json.specs.Place.{at_index, at_member};
 ghost use Rattle.wb_ecore.specs.Naming.{same_name, numbers};
-ghost use Rattle.wb_ecore.specs.Names.{number_of, fresh_in, Takes, Holds};
-ghost use Rattle.wb_ecore.specs.Repeats.{repeats, unrepeated, unrepeated_features, each_from, check_enum_names, check_class_names, unrepeated_names, reserved, enum_names, enum_names_in, class_names_in};
+ghost use Rattle.wb_ecore.specs.invariants.NumberedNames.{number_of, fresh_in, GainsName, Holds};
+ghost use Rattle.wb_ecore.specs.Repeats.{repeats, unrepeated, unrepeated_features, each_from, check_enum_names, check_class_names, unrepeated_names, kind_names, enum_names};
+ghost use Rattle.wb_ecore.specs.invariants.TakenNames.{enum_names_in, class_names_in};
 
 use crate::document::{ClassPart, Document, EnumPart, FeaturePart};
-use crate::names::{Named, Names};
+use crate::numbered_names::{Named, NumberedNames};
 use std::alloc::{AllocError, Global};
 use wb_json::{Name, Wrong};
 
@@ -14,7 +15,7 @@ use wb_json::{Name, Wrong};
 fn first_repeated<T: Named>(alloc: Global, items: &[T]) -> Result<Option<usize>, AllocError>
     ensures { IfOk result (λ place. place ≡ find (repeats T.name_of items.now) (numbers (length items.now))) }
 {
-    let mut taken = Names::new(alloc);
+    let mut taken = NumberedNames::new(alloc);
     for (number, item) in items.iter().enumerate() {
         if taken.get(item.name()).is_some() {
             return Ok(Some(number));
@@ -47,9 +48,9 @@ fn unrepeated_features(alloc: Global, parts: &[FeaturePart]) -> Result<(), Wrong
 }
 
 /// Takes a name, unless it is taken already.
-fn take(alloc: Global, taken: &mut Names, name: &Name) -> Result<(), Wrong>
+fn take(alloc: Global, taken: &mut NumberedNames, name: &Name) -> Result<(), Wrong>
     ensures given { Gives result (fresh_in taken.old name.now) }
-    ensures takes { OnOk result (Takes taken.old name.now taken.new) }
+    ensures takes { OnOk result (GainsName taken.old name.now taken.new) }
 {
     let bytes = name.as_str().as_bytes();
     if taken.get(bytes).is_some() {
@@ -59,9 +60,9 @@ fn take(alloc: Global, taken: &mut Names, name: &Name) -> Result<(), Wrong>
     Ok(())
 }
 
-fn take_name(alloc: Global, taken: &mut Names, name: &Name) -> Result<(), Wrong>
+fn take_name(alloc: Global, taken: &mut NumberedNames, name: &Name) -> Result<(), Wrong>
     ensures given { Gives result (at_member (codes "name") (fresh_in taken.old name.now)) }
-    ensures takes { OnOk result (Takes taken.old name.now taken.new) }
+    ensures takes { OnOk result (GainsName taken.old name.now taken.new) }
 {
     match take(alloc, taken, name) {
         Ok(()) => Ok(()),
@@ -69,10 +70,10 @@ fn take_name(alloc: Global, taken: &mut Names, name: &Name) -> Result<(), Wrong>
     }
 }
 
-fn enum_names(alloc: Global, taken: &mut Names, parts: &[EnumPart]) -> Result<(), Wrong>
-    requires { Holds taken.old reserved }
+fn enum_names(alloc: Global, taken: &mut NumberedNames, parts: &[EnumPart]) -> Result<(), Wrong>
+    requires { Holds taken.old kind_names }
     ensures given { Gives result (each_from (check_enum_names parts.now) 0 parts.now) }
-    ensures takes { OnOk result (Holds taken.new (reserved ++ enum_names parts.now)) }
+    ensures takes { OnOk result (Holds taken.new (kind_names ++ enum_names parts.now)) }
 {
     for (number, part) in parts.iter().enumerate() {
         enum_at(alloc, taken, number, part)?;
@@ -80,9 +81,14 @@ fn enum_names(alloc: Global, taken: &mut Names, parts: &[EnumPart]) -> Result<()
     Ok(())
 }
 
-fn enum_at(alloc: Global, taken: &mut Names, number: usize, part: &EnumPart) -> Result<(), Wrong>
+fn enum_at(
+    alloc: Global,
+    taken: &mut NumberedNames,
+    number: usize,
+    part: &EnumPart,
+) -> Result<(), Wrong>
     ensures given { Gives result (at_index number (enum_names_in taken.old part.now)) }
-    ensures takes { OnOk result (Takes taken.old part.now.name taken.new) }
+    ensures takes { OnOk result (GainsName taken.old part.now.name taken.new) }
 {
     match enum_part(alloc, taken, part) {
         Ok(()) => Ok(()),
@@ -90,9 +96,9 @@ fn enum_at(alloc: Global, taken: &mut Names, number: usize, part: &EnumPart) -> 
     }
 }
 
-fn enum_part(alloc: Global, taken: &mut Names, part: &EnumPart) -> Result<(), Wrong>
+fn enum_part(alloc: Global, taken: &mut NumberedNames, part: &EnumPart) -> Result<(), Wrong>
     ensures given { Gives result (enum_names_in taken.old part.now) }
-    ensures takes { OnOk result (Takes taken.old part.now.name taken.new) }
+    ensures takes { OnOk result (GainsName taken.old part.now.name taken.new) }
 {
     take_name(alloc, taken, &part.name)?;
     names_in(alloc, "literals", part.literals.as_slice())
@@ -118,11 +124,11 @@ fn features_in(alloc: Global, parts: &[FeaturePart]) -> Result<(), Wrong>
 
 fn class_names(
     alloc: Global,
-    taken: &mut Names,
+    taken: &mut NumberedNames,
     enums: &[EnumPart],
     parts: &[ClassPart],
 ) -> Result<(), Wrong>
-    requires { Holds taken.old (reserved ++ enum_names enums.now) }
+    requires { Holds taken.old (kind_names ++ enum_names enums.now) }
     ensures given { Gives result (each_from (check_class_names enums.now parts.now) 0 parts.now) }
 {
     for (number, part) in parts.iter().enumerate() {
@@ -131,9 +137,14 @@ fn class_names(
     Ok(())
 }
 
-fn class_at(alloc: Global, taken: &mut Names, number: usize, part: &ClassPart) -> Result<(), Wrong>
+fn class_at(
+    alloc: Global,
+    taken: &mut NumberedNames,
+    number: usize,
+    part: &ClassPart,
+) -> Result<(), Wrong>
     ensures given { Gives result (at_index number (class_names_in taken.old part.now)) }
-    ensures takes { OnOk result (Takes taken.old part.now.name taken.new) }
+    ensures takes { OnOk result (GainsName taken.old part.now.name taken.new) }
 {
     match class_part(alloc, taken, part) {
         Ok(()) => Ok(()),
@@ -141,9 +152,9 @@ fn class_at(alloc: Global, taken: &mut Names, number: usize, part: &ClassPart) -
     }
 }
 
-fn class_part(alloc: Global, taken: &mut Names, part: &ClassPart) -> Result<(), Wrong>
+fn class_part(alloc: Global, taken: &mut NumberedNames, part: &ClassPart) -> Result<(), Wrong>
     ensures given { Gives result (class_names_in taken.old part.now) }
-    ensures takes { OnOk result (Takes taken.old part.now.name taken.new) }
+    ensures takes { OnOk result (GainsName taken.old part.now.name taken.new) }
 {
     take_name(alloc, taken, &part.name)?;
     names_in(alloc, "supertypes", part.supertypes.as_slice())?;
@@ -151,10 +162,10 @@ fn class_part(alloc: Global, taken: &mut Names, part: &ClassPart) -> Result<(), 
 }
 
 /// The names that kinds have.
-fn reserved_names(alloc: Global) -> Result<Names, AllocError>
-    ensures { IfOk result (λ names. Holds names reserved) }
+fn kind_names(alloc: Global) -> Result<NumberedNames, AllocError>
+    ensures { IfOk result (λ names. Holds names kind_names) }
 {
-    let mut names = Names::new(alloc);
+    let mut names = NumberedNames::new(alloc);
     names.add(alloc, b"Int", 0)?;
     names.add(alloc, b"Bool", 0)?;
     names.add(alloc, b"Text", 0)?;
@@ -166,7 +177,7 @@ fn reserved_names(alloc: Global) -> Result<Names, AllocError>
 pub fn unrepeated_names(alloc: Global, document: &Document) -> Result<(), Wrong>
     ensures { Gives result (unrepeated_names document.now) }
 {
-    let mut taken = reserved_names(alloc)?;
+    let mut taken = kind_names(alloc)?;
     enums_in(alloc, &mut taken, document.enums.as_slice())?;
     classes_in(
         alloc,
@@ -176,10 +187,10 @@ pub fn unrepeated_names(alloc: Global, document: &Document) -> Result<(), Wrong>
     )
 }
 
-fn enums_in(alloc: Global, taken: &mut Names, parts: &[EnumPart]) -> Result<(), Wrong>
-    requires { Holds taken.old reserved }
+fn enums_in(alloc: Global, taken: &mut NumberedNames, parts: &[EnumPart]) -> Result<(), Wrong>
+    requires { Holds taken.old kind_names }
     ensures given { Gives result (at_member (codes "enums") (each_from (check_enum_names parts.now) 0 parts.now)) }
-    ensures takes { OnOk result (Holds taken.new (reserved ++ enum_names parts.now)) }
+    ensures takes { OnOk result (Holds taken.new (kind_names ++ enum_names parts.now)) }
 {
     match enum_names(alloc, taken, parts) {
         Ok(()) => Ok(()),
@@ -189,11 +200,11 @@ fn enums_in(alloc: Global, taken: &mut Names, parts: &[EnumPart]) -> Result<(), 
 
 fn classes_in(
     alloc: Global,
-    taken: &mut Names,
+    taken: &mut NumberedNames,
     enums: &[EnumPart],
     parts: &[ClassPart],
 ) -> Result<(), Wrong>
-    requires { Holds taken.old (reserved ++ enum_names enums.now) }
+    requires { Holds taken.old (kind_names ++ enum_names enums.now) }
     ensures given { Gives result (at_member (codes "classes") (each_from (check_class_names enums.now parts.now) 0 parts.now)) }
 {
     match class_names(alloc, taken, enums, parts) {

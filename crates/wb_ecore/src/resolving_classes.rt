@@ -2,7 +2,7 @@ ghost use Rattle.std.specs.Prelude.{◌≡◌, ◌<◌, ◌≤◌, ◌+◌, ◌^
 ghost use Rattle.std.specs.List.{enumerate_from};
 ghost use Rattle.wb_json.specs.Form.{Gives, or_wrong};
 ghost use Rattle.wb_json.specs.Place.{at_index, at_member};
-ghost use Rattle.wb_ecore.specs.Index.{Indexes};
+ghost use Rattle.wb_ecore.specs.invariants.Index.{Indexes};
 ghost use Rattle.wb_ecore.specs.Resolving.{walked, class_number, kind_named, opposite_of, feature_resolved, class_resolved};
 
 use crate::classes::Class;

@@ -24,5 +24,4 @@ pub use objects::{has, list_or_empty, needed, optional};
 pub use serde_json::Value;
 pub use texts::{parse_json, write_json};
 pub use to_json::{ToJson, to_text};
-pub use wb_base::is_name;
 pub use wrong::Wrong;

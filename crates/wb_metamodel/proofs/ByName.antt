@@ -10,21 +10,16 @@ use Rattle.std.specs.List.{list_any, find, slice_get, AllZip}
 use Rattle.std.specs.Option.{option_map, option_map_or, option_and_then, option_or}
 use Rattle.wb_ecore.specs.declared.features.Feature.{Feature}
 use Rattle.wb_metamodel.specs.Metamodel.{Metamodel, same_name, names_feature, numbers, features_of, feature_at, feature_named}
-use Rattle.wb_metamodel.specs.Tables.{features_table, feature_place, placed, is_other, HasRow, IsByName}
+use Rattle.wb_metamodel.specs.invariants.Tables.{features_table, feature_place, placed, is_other, HasRow, IsByName}
 use Rattle.wb_metamodel.specs.Checks.{is_name_of, clashes, has_clash}
-use Rattle.wb_ecore.proofs.Positions.{position-Some, position-None}
-use Rattle.wb_ecore.proofs.Zips.{zip-length, zip-at}
+use Rattle.wb_base.proofs.Positions.{position-Some, position-None}
+use Rattle.wb_base.proofs.Zips.{zip-length, zip-at}
 use Rattle.wb_metamodel.proofs.Warshall.{length-map}
 use Rattle.wb_metamodel.proofs.TableLemmas.{entry-cell}
-use Rattle.wb_metamodel.proofs.Distinct.{number-at}
+use Rattle.wb_base.proofs.ListLemmas.{present, number-at}
 use Rattle.wb_metamodel.proofs.Checked.{find-passes}
 use Rattle.wb_metamodel.proofs.Inherit.{of-member, member-at}
 use Rattle.std.proofs.lemmas.List.FromFn.{length-range_with_len}
-
-there : {X : Type 0} (xs : List X) (i : ℕ) → i < length xs → (x : X) × (slice_get xs i ≡ Some x)
-there [] i h = absurd (omega arith)
-there (x ∷ xs) zero h = (x, refl)
-there (x ∷ xs) (suc i) h = there xs i (omega arith)
 
 named-one : (mm : Metamodel) (f : ℕ) (feature : Feature) → feature_at mm f ≡ Some feature → (o : Option ℕ) → feature_place mm feature.name ≡ o → (j : ℕ) × (feature_place mm feature.name ≡ Some j)
 named-one mm f feature at None e =
@@ -44,7 +39,7 @@ place-at mm places f j feature e at own =
 -- the place of a feature's name tells whether it has a name
 pub placed-same : (mm : Metamodel) (places : List ℕ) (k f : ℕ) (name : List ℕ) → places ≡ places_of mm → feature_place mm name ≡ Some k → f < length mm.features → placed places k f ≡ is_name_of mm name f
 placed-same mm places k f name e found l =
-    let it = there mm.features f l in
+    let it = present mm.features f l in
     let feature = it.0 in
     let own = named-one mm f feature it.1 (feature_place mm feature.name) refl in
     let j = own.0 in
@@ -85,7 +80,7 @@ pub by-name : (mm : Metamodel) (rows : List (List (Option ℕ))) (places : List 
 by-name mm rows places e zip = λ c k name l found.
     let same = zip-length (HasRow places) rows (features_table mm) zip in
     let size = length-features mm in
-    let row = there rows c (omega arith) in
+    let row = present rows c (omega arith) in
     let has = zip-at (HasRow places) rows (features_table mm) c row.0 (features_of mm c) zip row.1 (features-at mm c l) in
     let one = position-Some (λ (x : Feature). same_name x.name name) mm.features k found in
     let count : length places ≡ length mm.features = ap length e ∙ length-map (λ (feature : Feature). unwrap_or (feature_place mm feature.name) 0) mm.features in
@@ -128,7 +123,7 @@ clash-same mm c row places reads =
     same-bools (list_any (is_other row places) own) (has_clash mm c)
     (λ h.
     let f = any-member (is_other row places) own h in
-    let feature = there mm.features f.0 (of-member mm c f.0 f.1) in
+    let feature = present mm.features f.0 (of-member mm c f.0 f.1) in
     let g = find-passes (is_name_of mm feature.0.name) own f.0 f.1 (passes mm f.0 feature.0 feature.1) in
     let differs : eqb g.0 f.0 ≡ false = sym (ap (λ o. names_feature o f.0) (reads f.0 feature.0 feature.1 ∙ g.1)) ∙ not-true _ f.2 in
     let turned : eqb f.0 g.0 ≡ false = ne_eqb f.0 g.0 (λ e. both_ways (eqb g.0 f.0) differs (eq-eqb g.0 f.0 (sym e))) in
@@ -136,14 +131,14 @@ clash-same mm c row places reads =
     member-any (clashes mm c) own f.0 f.1 (ap (λ o. option_map_or (λ (one : Feature). list_any (λ k. not (eqb f.0 k) && is_name_of mm one.name k) own) o false) feature.1 ∙ two))
     (λ h.
     let f = any-member (clashes mm c) own h in
-    let feature = there mm.features f.0 (of-member mm c f.0 f.1) in
+    let feature = present mm.features f.0 (of-member mm c f.0 f.1) in
     let two = sym (ap (λ o. option_map_or (λ (one : Feature). list_any (λ k. not (eqb f.0 k) && is_name_of mm one.name k) own) o false) feature.1) ∙ f.2 in
     let g = any-member (λ k. not (eqb f.0 k) && is_name_of mm feature.0.name k) own two in
     let parts = and_parts (not (eqb f.0 g.0)) (is_name_of mm feature.0.name g.0) g.2 in
     let first = find-passes (is_name_of mm feature.0.name) own f.0 f.1 (passes mm f.0 feature.0 feature.1) in
     ⊎_elim
     (λ e.
-    let other = there mm.features g.0 (of-member mm c g.0 g.1) in
+    let other = present mm.features g.0 (of-member mm c g.0 g.1) in
     let same : other.0.name ≡ feature.0.name = (bytes_decides other.0.name feature.0.name).0 (sym (ap (λ o. option_map_or (λ (one : Feature). same_name one.name feature.0.name) o false) other.1) ∙ parts.1) in
     let found = ap (feature_named mm c) same ∙ first.1 in
     let apart : eqb first.0 g.0 ≡ false = ap (λ k. eqb k g.0) e ∙ not-true _ parts.0 in
@@ -159,7 +154,7 @@ length-places mm places e = ap length e ∙ length-map (λ (feature : Feature). 
 pub places-known : (mm : Metamodel) (places : List ℕ) → places ≡ places_of mm → All (λ k. k < length places) places
 places-known mm places e = λ f d l.
     let n = length-places mm places e in
-    let it = there mm.features f (omega arith) in
+    let it = present mm.features f (omega arith) in
     let own = named-one mm f it.0 it.1 (feature_place mm it.0.name) refl in
     let found = position-Some (λ (x : Feature). same_name x.name it.0.name) mm.features own.0 own.1 in
     let read : get_or places f d ≡ own.0 = get_or_default places f d 0 l ∙ place-at mm places f own.0 it.0 e it.1 own.1 in

@@ -1,6 +1,6 @@
 -- Lists by their elements.
 use Rattle.std.proofs.Common.{◌≡◌, ℕ, ◌<◌, ◌≤◌, Bool, false, ◌||◌, List, [], ◌∷◌, length, get_or, zero, suc, refl, ap, ◌∙◌, arith}
-use Rattle.wb_metamodel.specs.Tables.{or_row}
+use Rattle.wb_metamodel.specs.invariants.Tables.{or_row}
 
 -- lists of one length with equal elements are equal
 pub same_cells : {X : Type 0} (d : X) (xs ys : List X) → length xs ≡ length ys → ((k : ℕ) → k < length ys → get_or xs k d ≡ get_or ys k d) → xs ≡ ys

@@ -13,19 +13,19 @@ use Rattle.wb_ecore.specs.declared.features.Kind.{Kind}
 use Rattle.wb_ecore.specs.declared.features.Kind.TheVariants.{Int, Bool as BoolKind, Text, Enum, Reference}
 use Rattle.wb_metamodel.specs.Metamodel.{Metamodel, same_name, names_feature, numbers, is_below, features_of, feature_at, feature_named, literal_total}
 use Rattle.wb_metamodel.specs.WellFormed.{AreOpposite}
-use Rattle.wb_metamodel.specs.Checks.{wrong_class, no_cycle, is_name_of, clashes, has_clash, no_clash, refers_to, unfit, is_mismatched, has_mismatch, wrong_feature, opposites_match, is_small, few}
+use Rattle.wb_metamodel.specs.Checks.{wrong_class, no_cycle, is_name_of, clashes, has_clash, no_clash, refers_to, unfit, is_mismatched, has_mismatch, wrong_feature, opposites_match, is_small, within_limits}
 use Rattle.wb_metamodel.proofs.Paths.{below-known}
-use Rattle.wb_metamodel.proofs.Distinct.{none-bad, number-at}
+use Rattle.wb_base.proofs.ListLemmas.{number-at}
+use Rattle.wb_metamodel.proofs.Distinct.{none-bad}
 
 class-wrong : (c : ℕ) → ◌≡◌ {A = Result ⊤ Place} (wrong_class c) (Ok tt) → ⊥
 class-wrong c h = cc
 
 pub is-acyclic : (mm : Metamodel) → no_cycle mm ≡ Ok tt → (c : ℕ) → is_below mm c c ≡ false
-unfolding is_below
 is-acyclic mm h c =
     ⊎_elim
     (λ l. none-bad (λ k. is_below mm k k) wrong_class (numbers (length mm.classes)) class-wrong h c c (number-at (length mm.classes) c l))
-    (λ past. false_from_ne_true _ (λ t. let l = below-known mm (numbers (length mm.classes)) c c t in absurd (omega arith)))
+    (λ past. false_from_ne_true _ (λ t. let l = below-known mm c c t in absurd (omega arith)))
     (cases_lt c (length mm.classes))
 
 or_second : (a b : Bool) → b ≡ true → (a || b) ≡ true
@@ -166,5 +166,5 @@ chosen : (b : Bool) → ◌≡◌ {A = Result ⊤ Place} (cond b (Ok tt) (Err []
 chosen true h = refl
 chosen false h = cc
 
-pub limits : (mm : Metamodel) → few mm ≡ Ok tt → (length mm.classes ≤ 1000) × (length mm.features ≤ 10000) × (length mm.enumerations ≤ 1000) × (literal_total mm ≤ 10000)
+pub limits : (mm : Metamodel) → within_limits mm ≡ Ok tt → (length mm.classes ≤ 1000) × (length mm.features ≤ 10000) × (length mm.enumerations ≤ 1000) × (literal_total mm ≤ 10000)
 limits mm h = small-parts mm (chosen (is_small mm) h)

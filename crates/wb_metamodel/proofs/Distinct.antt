@@ -15,18 +15,13 @@ use Rattle.wb_ecore.specs.declared.document.Document.{Document}
 use Rattle.wb_ecore.specs.declared.document.EnumPart.{EnumPart}
 use Rattle.wb_ecore.specs.declared.document.ClassPart.{ClassPart}
 use Rattle.wb_metamodel.specs.Metamodel.{same_name, numbers, class_named, enum_named, literal_named, class_at, enum_at}
-use Rattle.wb_ecore.specs.Resolving.{walked, class_resolved, enumeration_of, content_of}
-use Rattle.wb_ecore.specs.Repeats.{◌>>=◌, each_from, none_is, fresh, repeats, unrepeated, reserved, enum_names, class_names, check_enum_names, check_class_names}
-use Rattle.wb_ecore.proofs.Positions.{position-first}
+use Rattle.wb_ecore.specs.Resolving.{walked, class_resolved, enumeration_of, package_of}
+use Rattle.wb_ecore.specs.Repeats.{each_from, none_is, fresh, repeats, unrepeated, kind_names, enum_names, class_names, check_enum_names, check_class_names}
+use Rattle.wb_base.proofs.Positions.{position-first}
+use Rattle.wb_base.proofs.ListLemmas.{number-at}
+use Rattle.wb_base.proofs.Steps.{then_ok}
+use Rattle.wb_json.proofs.Found.{within_ok}
 use Rattle.wb_metamodel.proofs.Resolutions.{class-of, mapped}
-
-pub then_ok : {A B E : Type 0} (r : Result A E) (next : A → Result B E) (v : B) → (r >>= next) ≡ Ok v → (a : A) × (r ≡ Ok a) × (next a ≡ Ok v)
-then_ok (Ok a) next v h = (a, refl, h)
-then_ok (Err p) next v h = cc
-
-pub within_ok : {A : Type 0} (step : Place) (r : Result A Place) (v : A) → within step r ≡ Ok v → r ≡ Ok v
-within_ok step (Ok a) v h = h
-within_ok step (Err p) v h = cc
 
 pub any-at : {X : Type 0} (p : X → Bool) (xs : List X) (i : ℕ) (x : X) → list_any p xs ≡ false → slice_get xs i ≡ Some x → p x ≡ false
 any-at p [] i x h at = absurd (none-some x at)
@@ -73,14 +68,6 @@ none-bad bad wrong (m ∷ ms) e h i n at =
     let split = first_is_not bad wrong m ms e (bad m) refl h in
     bad-placed bad m ms split.0 (none-bad bad wrong ms e split.1) i n at
 
-pub range-at : (a n i : ℕ) → i < n → slice_get (range_with_len a n) i ≡ Some (a + i)
-range-at a zero i h = absurd (omega arith)
-range-at a (suc n) zero h = ap Some (let z : a ≡ a + 0 = omega arith in z)
-range-at a (suc n) (suc i) h = range-at (a + 1) n i (omega arith) ∙ ap Some (let z : (a + 1) + i ≡ a + suc i = omega arith in z)
-
-pub number-at : (n i : ℕ) → i < n → slice_get (numbers n) i ≡ Some i
-number-at n i h = range-at 0 n i h ∙ ap Some (let z : 0 + i ≡ i = omega arith in z)
-
 pub each-passed : {A : Type 0} (check : ℕ → A → Result ⊤ Place) (xs : List A) → each_from check 0 xs ≡ Ok tt → (i : ℕ) (x : A) → slice_get xs i ≡ Some x → check i x ≡ Ok tt
 each-passed check xs h i x at = ap (λ k. check k x) (let z : i ≡ 0 + i = omega arith in z) ∙ each-ok check 0 xs h i x at
 
@@ -100,7 +87,7 @@ map-take f (suc n) (x ∷ xs) = ap (λ ys. f x ∷ ys) (map-take f n xs)
 -- ---- classes
 
 pub classes-named : (document : Document) (parts : List ResolvedClass) → walked (class_resolved document) (enumerate_from 0 document.classes) ≡ Ok parts → each_from (check_class_names document.enums document.classes) 0 document.classes ≡ Ok tt
-    → (c : ℕ) (class : Class) → class_at (content_of document parts) c ≡ Some class → class_named (content_of document parts) class.name ≡ Some c
+    → (c : ℕ) (class : Class) → class_at (package_of document parts) c ≡ Some class → class_named (package_of document parts) class.name ≡ Some c
 classes-named document parts walk names c class h =
     let classes = map (λ (r : ResolvedClass). r.class) parts in
     let all = class_names document.classes in
@@ -108,8 +95,8 @@ classes-named document parts walk names c class h =
     let of = class-of document parts c y.0 walk y.1 in
     let name : class.name ≡ of.part.name = ap (λ (k : Class). k.name) (sym y.2) ∙ of.gave.name in
     let checked = each-passed (check_class_names document.enums document.classes) document.classes names c of.part of.stands in
-    let first = then_ok (at_member (codes "name") (fresh (reserved ++ enum_names document.enums ++ class_names (take c document.classes)) of.part.name)) _ tt checked in
-    let none = any-of-last of.part.name (reserved ++ enum_names document.enums) (class_names (take c document.classes)) (fresh-ok (reserved ++ enum_names document.enums ++ class_names (take c document.classes)) of.part.name (within_ok _ (fresh (reserved ++ enum_names document.enums ++ class_names (take c document.classes)) of.part.name) tt first.1)) in
+    let first = then_ok (at_member (codes "name") (fresh (kind_names ++ enum_names document.enums ++ class_names (take c document.classes)) of.part.name)) _ tt checked in
+    let none = any-of-last of.part.name (kind_names ++ enum_names document.enums) (class_names (take c document.classes)) (fresh-ok (kind_names ++ enum_names document.enums ++ class_names (take c document.classes)) of.part.name (within_ok _ (fresh (kind_names ++ enum_names document.enums ++ class_names (take c document.classes)) of.part.name) tt first.1)) in
     let earlier : list_any (same_name class.name) (take c all) ≡ false = ap (λ n. list_any (same_name n) (take c all)) name ∙ ap (list_any (same_name of.part.name)) (sym (map-take (λ (p : ClassPart). p.name) c document.classes)) ∙ none in
     position-first (λ (one : Class). same_name one.name class.name) classes c class h (nat_list_eq_equiv.refl class.name)
     (λ k z l there.
@@ -121,14 +108,14 @@ classes-named document parts walk names c class h =
 -- ---- enumerations and their literals
 
 pub enumerations-named : (document : Document) (parts : List ResolvedClass) → each_from (check_enum_names document.enums) 0 document.enums ≡ Ok tt
-    → (e : ℕ) (enumeration : Enumeration) → enum_at (content_of document parts) e ≡ Some enumeration → enum_named (content_of document parts) enumeration.name ≡ Some e
+    → (e : ℕ) (enumeration : Enumeration) → enum_at (package_of document parts) e ≡ Some enumeration → enum_named (package_of document parts) enumeration.name ≡ Some e
 enumerations-named document parts names e enumeration h =
     let all = enum_names document.enums in
     let y = mapped enumeration_of (slice_get document.enums e) enumeration (sym (slice_get-map enumeration_of document.enums e) ∙ h) in
     let name : enumeration.name ≡ y.0.name = ap (λ (k : Enumeration). k.name) (sym y.2) in
     let checked = each-passed (check_enum_names document.enums) document.enums names e y.0 y.1 in
-    let first = then_ok (at_member (codes "name") (fresh (reserved ++ enum_names (take e document.enums)) y.0.name)) _ tt checked in
-    let none = any-of-last y.0.name reserved (enum_names (take e document.enums)) (fresh-ok (reserved ++ enum_names (take e document.enums)) y.0.name (within_ok _ (fresh (reserved ++ enum_names (take e document.enums)) y.0.name) tt first.1)) in
+    let first = then_ok (at_member (codes "name") (fresh (kind_names ++ enum_names (take e document.enums)) y.0.name)) _ tt checked in
+    let none = any-of-last y.0.name kind_names (enum_names (take e document.enums)) (fresh-ok (kind_names ++ enum_names (take e document.enums)) y.0.name (within_ok _ (fresh (kind_names ++ enum_names (take e document.enums)) y.0.name) tt first.1)) in
     let earlier : list_any (same_name enumeration.name) (take e all) ≡ false = ap (λ n. list_any (same_name n) (take e all)) name ∙ ap (list_any (same_name y.0.name)) (sym (map-take (λ (p : EnumPart). p.name) e document.enums)) ∙ none in
     position-first (λ (one : Enumeration). same_name one.name enumeration.name) (map enumeration_of document.enums) e enumeration h (nat_list_eq_equiv.refl enumeration.name)
     (λ k z l there.
@@ -148,13 +135,13 @@ map-id [] = refl
 map-id (x ∷ xs) = ap (λ ys. x ∷ ys) (map-id xs)
 
 pub literals-named : (document : Document) (parts : List ResolvedClass) → each_from (check_enum_names document.enums) 0 document.enums ≡ Ok tt
-    → (e l : ℕ) (enumeration : Enumeration) (literal : List ℕ) → enum_at (content_of document parts) e ≡ Some enumeration → slice_get enumeration.literals l ≡ Some literal → literal_named (content_of document parts) e literal ≡ Some l
+    → (e l : ℕ) (enumeration : Enumeration) (literal : List ℕ) → enum_at (package_of document parts) e ≡ Some enumeration → slice_get enumeration.literals l ≡ Some literal → literal_named (package_of document parts) e literal ≡ Some l
 literals-named document parts names e l enumeration literal h at =
     let all = enumeration.literals in
     let y = mapped enumeration_of (slice_get document.enums e) enumeration (sym (slice_get-map enumeration_of document.enums e) ∙ h) in
     let same : y.0.literals ≡ all = ap (λ (k : Enumeration). k.literals) y.2 in
     let checked = each-passed (check_enum_names document.enums) document.enums names e y.0 y.1 in
-    let first = then_ok (at_member (codes "name") (fresh (reserved ++ enum_names (take e document.enums)) y.0.name)) _ tt checked in
+    let first = then_ok (at_member (codes "name") (fresh (kind_names ++ enum_names (take e document.enums)) y.0.name)) _ tt checked in
     let unique : unrepeated all ≡ Ok tt = ap unrepeated (sym same) ∙ within_ok _ (unrepeated y.0.literals) tt first.2 in
     let fresh_here = none-bad (repeats (λ name. name) all) (λ i. at_index i (Err [])) (numbers (length all)) index-wrong unique l l (number-at (length all) l (slice_get_within all l literal at)) in
     let none : list_any (same_name literal) (take l all) ≡ false = ap (list_any (same_name literal)) (sym (map-id (take l all))) ∙ test-at (λ x. list_any (same_name x) (map (λ name. name) (take l all))) (slice_get all l) literal at fresh_here in

@@ -10,38 +10,21 @@ use Rattle.std.specs.List.{list_any, find, flat_map, filter, range_with_len, cou
 use Rattle.std.specs.Option.{option_map_or}
 use Rattle.wb_ecore.specs.declared.features.Feature.{Feature}
 use Rattle.wb_metamodel.specs.Metamodel.{Metamodel, numbers, supertypes_of, is_supertype, is_below, first_places, own_features, features_within, features_of}
-use Rattle.wb_metamodel.specs.Tables.{below_table, features_table, rank_of}
-use Rattle.wb_metamodel.specs.Inherited.{IsHierarchy, FilledTo, all_features}
+use Rattle.wb_metamodel.specs.invariants.Tables.{below_table, features_table, rank_of}
+use Rattle.wb_metamodel.specs.invariants.Inherited.{IsHierarchy, FilledTo, all_features}
 use Rattle.wb_metamodel.proofs.Ranks.{tally, tally-is, rank-falls, rank-within, flat_map-same, features_of-step}
-use Rattle.wb_metamodel.proofs.Warshall.{map-map, map-same}
+use Rattle.wb_base.proofs.ListLemmas.{map-map, map-same, range-push, range-member, filter-member, first_places-member, first_places-push}
+use Rattle.std.proofs.lemmas.List.Elements.{filter-append}
 
 -- ---- members
 
-kept : (p : ℕ → Bool) (x : ℕ) (xs ys : List ℕ) (b : Bool) → (list_any p ys ≡ true → list_any p xs ≡ true) → list_any p (cond b (x ∷ ys) ys) ≡ true → (p x || list_any p xs) ≡ true
-kept p x xs ys true later h = ⊎_elim (λ a. or_left _ _ a) (λ b. or_right (p x) _ (later b)) (or_cases (p x) _ h)
-kept p x xs ys false later h = or_right (p x) _ (later h)
-
-filter-member : (p q : ℕ → Bool) (xs : List ℕ) → list_any p (filter q xs) ≡ true → list_any p xs ≡ true
-filter-member p q [] h = h
-filter-member p q (x ∷ xs) h = kept p x xs (filter q xs) (q x) (filter-member p q xs) h
-
-first_places-member : (f : ℕ) (xs : List ℕ) → list_any (eqb f) (first_places xs) ≡ true → list_any (eqb f) xs ≡ true
-first_places-member f [] h = h
-first_places-member f (x ∷ xs) h =
-    ⊎_elim (λ a. or_left _ _ a) (λ b. or_right (eqb f x) _ (first_places-member f xs (filter-member (eqb f) (λ y. not (eqb x y)) (first_places xs) b))) (or_cases (eqb f x) _ h)
-
-flat_map-member : (f : ℕ) (g : ℕ → List ℕ) (xs : List ℕ) → list_any (eqb f) (flat_map g xs) ≡ true → (x : ℕ) × (list_any (eqb x) xs ≡ true) × (list_any (eqb f) (g x) ≡ true)
+pub flat_map-member : (f : ℕ) (g : ℕ → List ℕ) (xs : List ℕ) → list_any (eqb f) (flat_map g xs) ≡ true → (x : ℕ) × (list_any (eqb x) xs ≡ true) × (list_any (eqb f) (g x) ≡ true)
 flat_map-member f g [] h = absurd (false≢true h)
 flat_map-member f g (x ∷ xs) h =
     ⊎_elim
     (λ a. (x, or_left _ _ (eq-eqb x x refl), a))
     (λ b. let later = flat_map-member f g xs b in (later.0, or_right (eqb later.0 x) _ later.1, later.2))
     (or_cases (list_any (eqb f) (g x)) _ (sym (list_any-append (eqb f) (g x) (flat_map g xs)) ∙ h))
-
-range-member : (f a n : ℕ) → list_any (eqb f) (range_with_len a n) ≡ true → f < a + n
-range-member f a zero h = absurd (false≢true h)
-range-member f a (suc n) h =
-    ⊎_elim (λ e. let s : f ≡ a = eqb-true f a e in omega arith) (λ m. let l = range-member f (a + 1) n m in omega arith) (or_cases (eqb f a) _ h)
 
 own-member : (mm : Metamodel) (c f : ℕ) → list_any (eqb f) (own_features mm c) ≡ true → f < length mm.features
 own-member mm c f h = let l = range-member f 0 (length mm.features) (filter-member (eqb f) _ (numbers (length mm.features)) h) in omega arith
@@ -59,35 +42,7 @@ pub of-member : (mm : Metamodel) (c f : ℕ) → list_any (eqb f) (features_of m
 unfolding features_of
 of-member mm c f h = within-member mm (length mm.classes) c f h
 
--- ---- first places, one number more
-
-cond-append : (b : Bool) (x : ℕ) (xs ys : List ℕ) → cond b (x ∷ (xs ++ ys)) (xs ++ ys) ≡ cond b (x ∷ xs) xs ++ ys
-cond-append true x xs ys = refl
-cond-append false x xs ys = refl
-
-pub filter-append : (q : ℕ → Bool) (xs ys : List ℕ) → filter q (xs ++ ys) ≡ filter q xs ++ filter q ys
-filter-append q [] ys = refl
-filter-append q (x ∷ xs) ys = ap (λ zs. cond (q x) (x ∷ zs) zs) (filter-append q xs ys) ∙ cond-append (q x) x (filter q xs) (filter q ys)
-
-last-kept : (a m : Bool) (x : ℕ) (q : ℕ → Bool) → q x ≡ not a → filter q (cond m [] (x ∷ [])) ≡ cond (a || m) [] (x ∷ [])
-last-kept true true x q h = refl
-last-kept true false x q h = ap (λ b. cond b (x ∷ []) []) h
-last-kept false true x q h = refl
-last-kept false false x q h = ap (λ b. cond b (x ∷ []) []) h
-
-pub first_places-push : (xs : List ℕ) (x : ℕ) → first_places (xs ++ x ∷ []) ≡ first_places xs ++ cond (list_any (eqb x) xs) [] (x ∷ [])
-first_places-push [] x = refl
-first_places-push (y ∷ ys) x =
-    let q : ℕ → Bool = λ z. not (eqb y z) in
-    ap (λ zs. y ∷ filter q zs) (first_places-push ys x)
-    ∙ ap (λ zs. y ∷ zs) (filter-append q (first_places ys) (cond (list_any (eqb x) ys) [] (x ∷ [])))
-    ∙ ap (λ zs. y ∷ (filter q (first_places ys) ++ zs)) (last-kept (eqb x y) (list_any (eqb x) ys) x q (ap not (nat_eq_equiv.symm y x)))
-
-pub range-push : (a n : ℕ) → range_with_len a (n + 1) ≡ range_with_len a n ++ (a + n) ∷ []
-range-push a zero = ap (λ k. range_with_len a k) (let z : 0 + 1 ≡ 1 = omega arith in z) ∙ ap (λ k. k ∷ []) (let z : a ≡ a + 0 = omega arith in z)
-range-push a (suc n) =
-    ap (range_with_len a) (let z : suc n + 1 ≡ suc (n + 1) = omega arith in z)
-    ∙ ap (λ zs. a ∷ zs) (range-push (a + 1) n ∙ ap (λ k. range_with_len (a + 1) n ++ k ∷ []) (let z : (a + 1) + n ≡ a + suc n = omega arith in z))
+-- ---- own features, one number more
 
 abbrev pub is_owned : Metamodel → ℕ → ℕ → Bool
 is_owned mm c f = option_map_or (λ (feature : Feature). eqb feature.owner c) (slice_get mm.features f) false

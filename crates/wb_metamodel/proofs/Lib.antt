@@ -2,6 +2,7 @@ pub mod ByName
 pub mod Cells
 pub mod Checked
 pub mod Distinct
+pub mod FeatureLaws
 pub mod Inherit
 pub mod Paths
 pub mod Ranges

@@ -5,7 +5,7 @@ use Rattle.std.proofs.lemmas.List.Recursion.{is_count_by}
 use Rattle.std.proofs.lemmas.List.FromFn.{length-range_with_len}
 use Rattle.std.specs.List.{list_any, flat_map, count_by}
 use Rattle.wb_metamodel.specs.Metamodel.{Metamodel, numbers, supertypes_of, is_supertype, is_below, first_places, own_features, features_within, features_of}
-use Rattle.wb_metamodel.specs.Tables.{rank_of}
+use Rattle.wb_metamodel.specs.invariants.Tables.{rank_of}
 use Rattle.wb_metamodel.proofs.Paths.{among_range, below-step, below-joined}
 
 unfoldable pub tally : {X : Type 0} → (X → Bool) → List X → ℕ

@@ -19,8 +19,10 @@ use Rattle.wb_ecore.specs.declared.document.Target.{Target}
 use Rattle.wb_ecore.specs.declared.document.Target.TheVariants.{Values, Objects}
 use Rattle.wb_ecore.specs.Document.{attribute_of, reference_of, feature_of, enum_of, class_of, document_of, HasNames}
 use Rattle.wb_metamodel.specs.Metamodel.{class_at, feature_at, enum_at}
-use Rattle.wb_ecore.specs.Resolving.{class_number, kind_named, opposite_of, feature_resolved, walked, class_resolved, enumeration_of, content_of}
-use Rattle.wb_metamodel.proofs.Resolutions.{then_ok, within_ok, same_ok, in_turn-gave, mapped, class-of, flat_map-at}
+use Rattle.wb_ecore.specs.Resolving.{class_number, kind_named, opposite_of, feature_resolved, walked, class_resolved, enumeration_of, package_of}
+use Rattle.wb_base.proofs.Steps.{then_ok, same_ok}
+use Rattle.wb_json.proofs.Found.{within_ok}
+use Rattle.wb_metamodel.proofs.Resolutions.{in_turn-gave, mapped, class-of, flat_map-at}
 
 -- ---- what was read
 
@@ -158,26 +160,26 @@ feature-kept document c part (Objects reference) feature h =
     ap (λ (f : Feature). f.name) (same_ok _ feature b.2)
 
 pub classes-are-names : (document : Document) (parts : List ResolvedClass) → HasNames document → walked (class_resolved document) (enumerate_from 0 document.classes) ≡ Ok parts
-    → (c : ℕ) (class : Class) → class_at (content_of document parts) c ≡ Some class → is_name class.name ≡ true
+    → (c : ℕ) (class : Class) → class_at (package_of document parts) c ≡ Some class → is_name class.name ≡ true
 classes-are-names document parts names walk c class h =
     let y = mapped (λ (r : ResolvedClass). r.class) (slice_get parts c) class (sym (slice_get-map (λ (r : ResolvedClass). r.class) parts c) ∙ h) in
     let of = class-of document parts c y.0 walk y.1 in
     ap (λ (k : Class). is_name k.name) (sym y.2) ∙ ap is_name of.gave.name ∙ names.classes c of.part of.stands
 
 pub features-are-names : (document : Document) (parts : List ResolvedClass) → HasNames document → walked (class_resolved document) (enumerate_from 0 document.classes) ≡ Ok parts
-    → (f : ℕ) (feature : Feature) → feature_at (content_of document parts) f ≡ Some feature → is_name feature.name ≡ true
+    → (f : ℕ) (feature : Feature) → feature_at (package_of document parts) f ≡ Some feature → is_name feature.name ≡ true
 features-are-names document parts names walk f feature h =
     let at = flat_map-at (λ (r : ResolvedClass). r.features) parts f feature h in
     let of = class-of document parts at.0 at.2 walk at.3 in
     let g = in_turn-gave (λ (one : FeaturePart). feature_resolved document at.0 one one.target) 0 of.part.features at.2.features of.gave.features at.1 feature at.4 in
     ap is_name (sym (feature-kept document at.0 g.from g.from.target feature g.gave)) ∙ names.features at.0 at.1 of.part g.from of.stands g.stands
 
-pub enumerations-are-names : (document : Document) (parts : List ResolvedClass) → HasNames document → (e : ℕ) (enumeration : Enumeration) → enum_at (content_of document parts) e ≡ Some enumeration → is_name enumeration.name ≡ true
+pub enumerations-are-names : (document : Document) (parts : List ResolvedClass) → HasNames document → (e : ℕ) (enumeration : Enumeration) → enum_at (package_of document parts) e ≡ Some enumeration → is_name enumeration.name ≡ true
 enumerations-are-names document parts names e enumeration h =
     let y = mapped enumeration_of (slice_get document.enums e) enumeration (sym (slice_get-map enumeration_of document.enums e) ∙ h) in
     ap (λ (k : Enumeration). is_name k.name) (sym y.2) ∙ names.enums e y.0 y.1
 
-pub literals-are-names : (document : Document) (parts : List ResolvedClass) → HasNames document → (e l : ℕ) (enumeration : Enumeration) (literal : List ℕ) → enum_at (content_of document parts) e ≡ Some enumeration
+pub literals-are-names : (document : Document) (parts : List ResolvedClass) → HasNames document → (e l : ℕ) (enumeration : Enumeration) (literal : List ℕ) → enum_at (package_of document parts) e ≡ Some enumeration
     → slice_get enumeration.literals l ≡ Some literal → is_name literal ≡ true
 literals-are-names document parts names e l enumeration literal h at =
     let y = mapped enumeration_of (slice_get document.enums e) enumeration (sym (slice_get-map enumeration_of document.enums e) ∙ h) in

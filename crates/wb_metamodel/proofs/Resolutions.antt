@@ -5,7 +5,9 @@ use Rattle.std.proofs.lemmas.Option.{none-some, same_Some, slice_get_within, sli
 use Rattle.std.specs.List.{list_any, flat_map, enumerate_from, slice_get}
 use Rattle.std.specs.Option.{option_map, option_map_or}
 use Rattle.wb_json.specs.Place.{Place, within, at_member, at_index}
-use Rattle.wb_json.specs.Form.{◌>>=◌, in_turn, or_wrong}
+use Rattle.wb_json.specs.Form.{in_turn, or_wrong}
+use Rattle.wb_base.proofs.Steps.{then_ok, same_ok}
+use Rattle.wb_json.proofs.Found.{within_ok, or_wrong_ok}
 use Rattle.wb_ecore.specs.declared.classes.Class.{Class}
 use Rattle.wb_ecore.specs.declared.features.Feature.{Feature}
 use Rattle.wb_ecore.specs.declared.features.Kind.{Kind}
@@ -18,27 +20,11 @@ use Rattle.wb_ecore.specs.declared.document.FeaturePart.{FeaturePart}
 use Rattle.wb_ecore.specs.declared.document.Target.{Target}
 use Rattle.wb_ecore.specs.declared.document.Target.TheVariants.{Values, Objects}
 use Rattle.wb_metamodel.specs.Metamodel.{Metamodel, same_name, is_supertype, feature_at}
-use Rattle.wb_ecore.specs.Resolving.{class_number, enum_number, kind_named, opposite_of, feature_resolved, in_place, walked, class_resolved, enumeration_of, content_of, resolved}
+use Rattle.wb_ecore.specs.Resolving.{class_number, enum_number, kind_named, opposite_of, feature_resolved, in_place, walked, class_resolved, enumeration_of, package_of, resolved}
 use Rattle.wb_metamodel.specs.WellFormed.{KindIsKnown, IsReference}
 use Rattle.wb_ecore.proofs.Numbered.{class-number-known}
-use Rattle.wb_ecore.proofs.Positions.{position-Some}
+use Rattle.wb_base.proofs.Positions.{position-Some}
 use Rattle.wb_metamodel.proofs.Warshall.{length-map}
-
--- a step that went well, and the one after it
-pub then_ok : {A B : Type 0} (r : Result A Place) (next : A → Result B Place) (v : B) → (r >>= next) ≡ Ok v → (a : A) × (r ≡ Ok a) × (next a ≡ Ok v)
-then_ok (Ok a) next v h = (a, refl, h)
-then_ok (Err p) next v h = cc
-
-pub within_ok : {A : Type 0} (step : Place) (r : Result A Place) (v : A) → within step r ≡ Ok v → r ≡ Ok v
-within_ok step (Ok a) v h = h
-within_ok step (Err p) v h = cc
-
-pub or_wrong_ok : {A : Type 0} (o : Option A) (v : A) → or_wrong o ≡ Ok v → o ≡ Some v
-or_wrong_ok (Some a) v h = cc
-or_wrong_ok None v h = cc
-
-pub same_ok : {A : Type 0} (a b : A) → ◌≡◌ {A = Result A Place} (Ok a) (Ok b) → a ≡ b
-same_ok a b h = cc
 
 -- what each element of a walk gave
 pub record Gave {A B : Type 0} (step : A → Result B Place) (xs : List A) (i : ℕ) (y : B) : Type 0 where
@@ -97,7 +83,7 @@ flat_map-at f (x ∷ xs) k y h = ⊎_elim (λ here. (0, here.0, x, refl, here.1)
 
 pub record Resolution (document : Document) (mm : Metamodel) : Type 0 where
   pub parts : List ResolvedClass
-  pub is : content_of document parts ≡ mm
+  pub is : package_of document parts ≡ mm
   pub walk : walked (class_resolved document) (enumerate_from 0 document.classes) ≡ Ok parts
 
 pub resolution : (document : Document) (mm : Metamodel) → resolved document ≡ Ok mm → Resolution document mm
@@ -144,7 +130,7 @@ length-enumerate : {A : Type 0} (n : ℕ) (xs : List A) → length (enumerate_fr
 length-enumerate n [] = refl
 length-enumerate n (x ∷ xs) = ap (λ k. suc k) (length-enumerate (n + 1) xs)
 
-pub classes-length : (document : Document) (parts : List ResolvedClass) → walked (class_resolved document) (enumerate_from 0 document.classes) ≡ Ok parts → length (content_of document parts).classes ≡ length document.classes
+pub classes-length : (document : Document) (parts : List ResolvedClass) → walked (class_resolved document) (enumerate_from 0 document.classes) ≡ Ok parts → length (package_of document parts).classes ≡ length document.classes
 classes-length document parts walk =
     length-map (λ (c : ResolvedClass). c.class) parts ∙ in_turn-length (class_resolved document) 0 (enumerate_from 0 document.classes) parts walk ∙ length-enumerate 0 document.classes
 
@@ -163,7 +149,7 @@ of_class s None h = absurd (false≢true h)
 of_class s (Some class) h = (class, refl, h)
 
 pub supertypes-known : (document : Document) (parts : List ResolvedClass) → walked (class_resolved document) (enumerate_from 0 document.classes) ≡ Ok parts
-    → (c s : ℕ) → is_supertype (content_of document parts) c s ≡ true → s < length (content_of document parts).classes
+    → (c s : ℕ) → is_supertype (package_of document parts) c s ≡ true → s < length (package_of document parts).classes
 supertypes-known document parts walk c s h =
     let cl = of_class s (slice_get (map (λ (r : ResolvedClass). r.class) parts) c) h in
     let y = mapped (λ (r : ResolvedClass). r.class) (slice_get parts c) cl.0 (sym (slice_get-map (λ (r : ResolvedClass). r.class) parts c) ∙ cl.1) in
@@ -188,10 +174,10 @@ kind-choice mm false false true o kind h k = subst (KindIsKnown mm) (same_Some T
 kind-choice mm false false false None kind h k = absurd (none-some kind h)
 kind-choice mm false false false (Some e) kind h k = subst (KindIsKnown mm) (same_Some (Enum e) kind h) (k e refl)
 
-pub feature-facts : (document : Document) (parts : List ResolvedClass) (c : ℕ) (part : FeaturePart) (target : Target) (feature : Feature) → c < length (content_of document parts).classes
-    → length (content_of document parts).classes ≡ length document.classes → feature_resolved document c part target ≡ Ok feature → FeatureFacts (content_of document parts) feature
+pub feature-facts : (document : Document) (parts : List ResolvedClass) (c : ℕ) (part : FeaturePart) (target : Target) (feature : Feature) → c < length (package_of document parts).classes
+    → length (package_of document parts).classes ≡ length document.classes → feature_resolved document c part target ≡ Ok feature → FeatureFacts (package_of document parts) feature
 feature-facts document parts c part (Values name) feature l n h =
-    let mm = content_of document parts in
+    let mm = package_of document parts in
     let a = then_ok (at_member _ (or_wrong (kind_named document name))) _ feature h in
     let whole = same_ok _ feature a.2 in
     let named = or_wrong_ok _ a.0 (within_ok _ _ a.0 a.1) in
@@ -202,7 +188,7 @@ feature-facts document parts c part (Values name) feature l n h =
       containment = λ t. absurd (false≢true (ap (λ (f : Feature). f.containment) whole ∙ t));
     }
 feature-facts document parts c part (Objects reference) feature l n h =
-    let mm = content_of document parts in
+    let mm = package_of document parts in
     let a = then_ok (at_member _ (or_wrong (class_number document reference.class))) _ feature h in
     let b = then_ok (opposite_of document a.0 reference.opposite) _ feature a.2 in
     let whole = same_ok _ feature b.2 in
@@ -215,7 +201,7 @@ feature-facts document parts c part (Objects reference) feature l n h =
     }
 
 pub features-known : (document : Document) (parts : List ResolvedClass) → walked (class_resolved document) (enumerate_from 0 document.classes) ≡ Ok parts
-    → (f : ℕ) (feature : Feature) → feature_at (content_of document parts) f ≡ Some feature → FeatureFacts (content_of document parts) feature
+    → (f : ℕ) (feature : Feature) → feature_at (package_of document parts) f ≡ Some feature → FeatureFacts (package_of document parts) feature
 features-known document parts walk f feature h =
     let at = flat_map-at (λ (r : ResolvedClass). r.features) parts f feature h in
     let of = class-of document parts at.0 at.2 walk at.3 in

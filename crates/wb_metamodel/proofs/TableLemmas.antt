@@ -6,9 +6,9 @@ use Rattle.std.proofs.lemmas.Bool.{cases_lt, or_left, eq-eqb, ne_eqb}
 use Rattle.std.proofs.lemmas.Option.{none-some, slice_get_past, slice_get_read}
 use Rattle.std.proofs.lemmas.List.FromFn.{length-map-range_with_len, get_or-map-range_with_len}
 use Rattle.wb_metamodel.specs.Metamodel.{Metamodel, same_name, numbers, is_below, conforms, features_of, feature_named}
-use Rattle.wb_metamodel.specs.Tables.{below_table, features_table, entry, feature_place}
+use Rattle.wb_metamodel.specs.invariants.Tables.{below_table, features_table, entry, feature_place}
 use Rattle.wb_ecore.specs.declared.features.Feature.{Feature}
-use Rattle.wb_ecore.proofs.Positions.{find-none, at-false, position-None}
+use Rattle.wb_base.proofs.Positions.{find-none, at-false, position-None}
 
 pub length-below_table : (mm : Metamodel) → length (below_table mm) ≡ length mm.classes
 unfolding below_table

@@ -1,21 +1,16 @@
 -- The table of paths, with one more class between the ends.
 use Rattle.std.proofs.Common.{◌≡◌, ℕ, ◌+◌, ◌-◌, ◌<◌, Bool, true, false, cond, ◌||◌, eqb, List, [], ◌∷◌, length, map, get_or, Some, zero, suc, refl, sym, ap, ◌∙◌, ⊎_elim, arith}
+use Rattle.std.proofs.Math.Bool.{or-false}
 use Rattle.std.proofs.lemmas.Bool.{cases_Bool, cond-true, cond-false}
 use Rattle.std.proofs.lemmas.List.FromFn.{length-map-range_with_len, get_or-map-range_with_len, fill_by_all}
 use Rattle.std.proofs.lemmas.Option.{slice_get-map, get_or_from_slice_get}
 use Rattle.std.specs.List.{list_any, range_with_len, slice_get}
 use Rattle.std.specs.Option.{option_map, option_map_or}
 use Rattle.wb_ecore.specs.declared.classes.Class.{Class}
-use Rattle.wb_metamodel.specs.Metamodel.{Metamodel, numbers, is_supertype, leads_through, is_below}
-use Rattle.wb_metamodel.specs.Tables.{table_of, direct_row, or_row, widened, below_table}
-
-pub map-same : {A B : Type 0} (f g : A → B) (xs : List A) → ((x : A) → f x ≡ g x) → map f xs ≡ map g xs
-map-same f g [] h = refl
-map-same f g (x ∷ xs) h = ap (λ y. y ∷ map f xs) (h x) ∙ ap (λ ys. g x ∷ ys) (map-same f g xs h)
-
-pub map-map : {A B C : Type 0} (g : B → C) (f : A → B) (xs : List A) → map g (map f xs) ≡ map (λ x. g (f x)) xs
-map-map g f [] = refl
-map-map g f (x ∷ xs) = ap (λ ys. g (f x) ∷ ys) (map-map g f xs)
+use Rattle.wb_metamodel.specs.Metamodel.{Metamodel, numbers, is_supertype, is_below}
+use Rattle.wb_base.specs.Paths.{leads_through}
+use Rattle.wb_base.proofs.ListLemmas.{present, map-same, map-map}
+use Rattle.wb_metamodel.specs.invariants.Tables.{table_of, direct_row, or_row, widened, below_table}
 
 pub length-map : {A B : Type 0} (f : A → B) (xs : List A) → length (map f xs) ≡ length xs
 length-map f [] = refl
@@ -24,10 +19,6 @@ length-map f (x ∷ xs) = ap (λ n. suc n) (length-map f xs)
 or_row-map : (f g : ℕ → Bool) (ns : List ℕ) → or_row (map f ns) (map g ns) ≡ map (λ b. f b || g b) ns
 or_row-map f g [] = refl
 or_row-map f g (n ∷ ns) = ap (λ ys. (f n || g n) ∷ ys) (or_row-map f g ns)
-
-or-false : (x : Bool) → (x || false) ≡ x
-or-false true = refl
-or-false false = refl
 
 widened-map : (n k : ℕ) (f : ℕ → ℕ → Bool) (a : ℕ) → k < n → widened k (map (f k) (numbers n)) (map (f a) (numbers n)) ≡ map (λ b. f a b || cond (f a k) (f k b) false) (numbers n)
 widened-map n k f a h =
@@ -49,32 +40,27 @@ through-table n k f h =
     ∙ map-map (widened k (map (f k) (numbers n))) (λ a. map (f a) (numbers n)) (numbers n)
     ∙ map-same (λ a. widened k (map (f k) (numbers n)) (map (f a) (numbers n))) (λ a. map (λ b. f a b || cond (f a k) (f k b) false) (numbers n)) (numbers n) (λ a. widened-map n k f a h)
 
-pub leads-table : (mm : Metamodel) (n k : ℕ) (ks : List ℕ) → table_of n (λ a b. leads_through mm ks a b || cond (leads_through mm ks a k) (leads_through mm ks k b) false) ≡ table_of n (leads_through mm (k ∷ ks))
+pub leads-table : (mm : Metamodel) (n k : ℕ) (ks : List ℕ) → table_of n (λ a b. leads_through (is_supertype mm) ks a b || cond (leads_through (is_supertype mm) ks a k) (leads_through (is_supertype mm) ks k b) false) ≡ table_of n (leads_through (is_supertype mm) (k ∷ ks))
 unfolding leads_through
 leads-table mm n k ks = refl
-
-there : {X : Type 0} (xs : List X) (i : ℕ) → i < length xs → (x : X) × (slice_get xs i ≡ Some x)
-there [] i h = absurd (omega arith)
-there (x ∷ xs) zero h = (x, refl)
-there (x ∷ xs) (suc i) h = there xs i (omega arith)
 
 direct_of : ℕ → Class → List Bool
 direct_of n class = direct_row n class.supertypes
 
 -- the first table: one step
-pub direct-table : (mm : Metamodel) → map (λ (class : Class). direct_row (length mm.classes) class.supertypes) mm.classes ≡ table_of (length mm.classes) (leads_through mm [])
+pub direct-table : (mm : Metamodel) → map (λ (class : Class). direct_row (length mm.classes) class.supertypes) mm.classes ≡ table_of (length mm.classes) (leads_through (is_supertype mm) [])
 unfolding leads_through
 direct-table mm =
     let n = length mm.classes in
     let row : Class → List Bool = λ (class : Class). direct_row n class.supertypes in
     fill_by_all (λ a. map (is_supertype mm a) (numbers n)) (map row mm.classes) n [] (length-map row mm.classes)
     (λ a h.
-    let found = there mm.classes a h in
+    let found = present mm.classes a h in
     let read : slice_get (map row mm.classes) a ≡ Some (row found.0) = slice_get-map row mm.classes a ∙ ap (option_map row) found.1 in
     get_or_from_slice_get (map row mm.classes) a (row found.0) [] read
     ∙ sym (ap (λ o. map (λ b. list_any (eqb b) (option_map_or (λ (class : Class). class.supertypes) o [])) (numbers n)) found.1))
 
-pub below-is : (mm : Metamodel) → table_of (length mm.classes) (leads_through mm (numbers (length mm.classes))) ≡ below_table mm
+pub below-is : (mm : Metamodel) → table_of (length mm.classes) (leads_through (is_supertype mm) (numbers (length mm.classes))) ≡ below_table mm
 unfolding below_table is_below
 below-is mm = refl
 
@@ -91,7 +77,7 @@ ranged n done h =
 pub length-table : (n : ℕ) (f : ℕ → ℕ → Bool) → length (table_of n f) ≡ n
 length-table n f = length-map-range_with_len (λ a. map (f a) (numbers n)) 0 n
 
-pub at_last : (mm : Metamodel) (n done : ℕ) → n ≡ length mm.classes → done ≡ n → table_of n (leads_through mm (range_with_len (n - done) done)) ≡ below_table mm
+pub at_last : (mm : Metamodel) (n done : ℕ) → n ≡ length mm.classes → done ≡ n → table_of n (leads_through (is_supertype mm) (range_with_len (n - done) done)) ≡ below_table mm
 at_last mm n done e d =
     let z : n - done ≡ 0 = omega arith in
-    ap (λ k. table_of n (leads_through mm (range_with_len k done))) z ∙ ap (λ k. table_of n (leads_through mm (range_with_len 0 k))) d ∙ ap (λ k. table_of k (leads_through mm (range_with_len 0 k))) e ∙ below-is mm
+    ap (λ k. table_of n (leads_through (is_supertype mm) (range_with_len k done))) z ∙ ap (λ k. table_of n (leads_through (is_supertype mm) (range_with_len 0 k))) d ∙ ap (λ k. table_of k (leads_through (is_supertype mm) (range_with_len 0 k))) e ∙ below-is mm

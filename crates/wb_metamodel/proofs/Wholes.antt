@@ -9,25 +9,30 @@ use Rattle.wb_ecore.specs.declared.resolving.ResolvedClass.{ResolvedClass}
 use Rattle.wb_ecore.specs.Document.{document_of, HasNames}
 use Rattle.wb_metamodel.specs.Metamodel.{Metamodel, is_supertype}
 use Rattle.std.specs.List.{enumerate_from}
-use Rattle.wb_ecore.specs.Resolving.{walked, class_resolved, content_of, resolved}
+use Rattle.wb_ecore.specs.Resolving.{walked, class_resolved, package_of, resolved}
 use Rattle.wb_metamodel.specs.WellFormed.{IsWellFormed}
-use Rattle.wb_ecore.specs.Repeats.{each_from, check_enum_names, check_class_names, ◌>>=◌, unrepeated_names}
-use Rattle.wb_metamodel.specs.Checks.{no_cycle, no_clash, opposites_match, few, coded, read_document, resolve, later, check, Answers}
+use Rattle.wb_base.specs.Results.{◌>>=◌}
+use Rattle.wb_ecore.specs.Repeats.{each_from, check_enum_names, check_class_names, unrepeated_names}
+use Rattle.wb_metamodel.specs.Checks.{no_cycle, no_clash, opposites_match, within_limits, coded, read_document, resolve, later, check}
 use Rattle.wb_ecore.specs.declared.refusal.MetamodelCode.{MetamodelCode}
 use Rattle.wb_ecore.specs.declared.refusal.MetamodelCode.TheVariants.{BadJson, BadShape, SupertypeCycle, DuplicateName, UnknownName, OppositeMismatch, TooMany}
-use Rattle.wb_ecore.specs.declared.refusal.MetamodelRefusal.{MetamodelRefusal}
-use Rattle.wb_ecore.specs.declared.refusal.MetamodelRefusal.TheVariants.{At, NoMemory}
-use Rattle.wb_metamodel.specs.Inherited.{IsHierarchy}
+use Rattle.wb_base.specs.Answering.{AsDefined}
+use Rattle.wb_base.proofs.Answered.{answered_first, answered_then}
+use Rattle.wb_json.specs.Refusals.{code_at}
+use Rattle.wb_json.specs.declared.file_refusal.FileRefusal.{FileRefusal}
+use Rattle.wb_metamodel.specs.invariants.Inherited.{IsHierarchy}
 use Rattle.wb_metamodel.proofs.Resolutions.{resolution, supertypes-known, features-known}
-use Rattle.wb_metamodel.proofs.Distinct.{then_ok, within_ok, classes-named, enumerations-named, literals-named}
+use Rattle.wb_base.proofs.Steps.{then_ok}
+use Rattle.wb_json.proofs.Found.{within_ok, coded_ok}
+use Rattle.wb_metamodel.proofs.Distinct.{classes-named, enumerations-named, literals-named}
 use Rattle.wb_metamodel.proofs.ReadNames.{document-names, classes-are-names, features-are-names, enumerations-are-names, literals-are-names}
 use Rattle.wb_metamodel.proofs.Checked.{is-acyclic, features-named, opposites-are, limits}
 
-of-content : (document : Document) (parts : List ResolvedClass) → HasNames document → walked (class_resolved document) (enumerate_from 0 document.classes) ≡ Ok parts → unrepeated_names document ≡ Ok tt
-    → no_cycle (content_of document parts) ≡ Ok tt → no_clash (content_of document parts) ≡ Ok tt → opposites_match (content_of document parts) ≡ Ok tt → few (content_of document parts) ≡ Ok tt → IsWellFormed (content_of document parts)
+of-elements : (document : Document) (parts : List ResolvedClass) → HasNames document → walked (class_resolved document) (enumerate_from 0 document.classes) ≡ Ok parts → unrepeated_names document ≡ Ok tt
+    → no_cycle (package_of document parts) ≡ Ok tt → no_clash (package_of document parts) ≡ Ok tt → opposites_match (package_of document parts) ≡ Ok tt → within_limits (package_of document parts) ≡ Ok tt → IsWellFormed (package_of document parts)
 unfolding IsWellFormed unrepeated_names
-of-content document parts written walk names cycle clash opposites small =
-    let mm = content_of document parts in
+of-elements document parts written walk names cycle clash opposites small =
+    let mm = package_of document parts in
     let first = then_ok (at_member (codes "enums") (each_from (check_enum_names document.enums) 0 document.enums)) _ tt names in
     let enums = within_ok _ (each_from (check_enum_names document.enums) 0 document.enums) tt first.1 in
     let classes = within_ok _ (each_from (check_class_names document.enums document.classes) 0 document.classes) tt first.2 in
@@ -54,15 +59,11 @@ of-content document parts written walk names cycle clash opposites small =
       opposites = opposites-are mm opposites;
     }
 
-pub whole : (document : Document) (mm : Metamodel) → HasNames document → unrepeated_names document ≡ Ok tt → resolved document ≡ Ok mm → no_cycle mm ≡ Ok tt → no_clash mm ≡ Ok tt → opposites_match mm ≡ Ok tt → few mm ≡ Ok tt → IsWellFormed mm
+pub whole : (document : Document) (mm : Metamodel) → HasNames document → unrepeated_names document ≡ Ok tt → resolved document ≡ Ok mm → no_cycle mm ≡ Ok tt → no_clash mm ≡ Ok tt → opposites_match mm ≡ Ok tt → within_limits mm ≡ Ok tt → IsWellFormed mm
 whole document mm written names given =
     let r = resolution document mm given in
-    let P : Metamodel → Type 0 = λ m. no_cycle m ≡ Ok tt → no_clash m ≡ Ok tt → opposites_match m ≡ Ok tt → few m ≡ Ok tt → IsWellFormed m in
-    subst P r.is (of-content document r.parts written r.walk names)
-
-pub coded_ok : {A : Type 0} (code : MetamodelCode) (r : Result A Place) (v : A) → coded code r ≡ Ok v → r ≡ Ok v
-coded_ok code (Ok a) v h = cc
-coded_ok code (Err p) v h = cc
+    let P : Metamodel → Type 0 = λ m. no_cycle m ≡ Ok tt → no_clash m ≡ Ok tt → opposites_match m ≡ Ok tt → within_limits m ≡ Ok tt → IsWellFormed m in
+    subst P r.is (of-elements document r.parts written r.walk names)
 
 -- a document that was read from a text has names alone
 pub names-read : (bytes : List ℕ) (document : Document) → read_document bytes ≡ Ok document → HasNames document
@@ -77,12 +78,12 @@ resolve-parts document mm h =
     let a = then_ok (coded DuplicateName (unrepeated_names document)) (λ _. coded UnknownName (resolved document)) mm h in
     (coded_ok DuplicateName (unrepeated_names document) tt a.1, coded_ok UnknownName (resolved document) mm a.2)
 
-later-parts : (mm : Metamodel) → later mm ≡ Ok tt → (no_clash mm ≡ Ok tt) × (opposites_match mm ≡ Ok tt) × (few mm ≡ Ok tt)
+later-parts : (mm : Metamodel) → later mm ≡ Ok tt → (no_clash mm ≡ Ok tt) × (opposites_match mm ≡ Ok tt) × (within_limits mm ≡ Ok tt)
 unfolding later
 later-parts mm h =
-    let a = then_ok (coded DuplicateName (no_clash mm)) (λ _. coded OppositeMismatch (opposites_match mm) >>= (λ _. coded TooMany (few mm))) tt h in
-    let b = then_ok (coded OppositeMismatch (opposites_match mm)) (λ _. coded TooMany (few mm)) tt a.2 in
-    (coded_ok DuplicateName (no_clash mm) tt a.1, coded_ok OppositeMismatch (opposites_match mm) tt b.1, coded_ok TooMany (few mm) tt b.2)
+    let a = then_ok (coded DuplicateName (no_clash mm)) (λ _. coded OppositeMismatch (opposites_match mm) >>= (λ _. coded TooMany (within_limits mm))) tt h in
+    let b = then_ok (coded OppositeMismatch (opposites_match mm)) (λ _. coded TooMany (within_limits mm)) tt a.2 in
+    (coded_ok DuplicateName (no_clash mm) tt a.1, coded_ok OppositeMismatch (opposites_match mm) tt b.1, coded_ok TooMany (within_limits mm) tt b.2)
 
 -- every supertype of a resolved document is one of its classes
 pub known : (document : Document) (mm : Metamodel) → resolve document ≡ Ok mm → (c s : ℕ) → is_supertype mm c s ≡ true → s < length mm.classes
@@ -116,8 +117,7 @@ unfolding check
 check-ok mm cycle rest =
     ap (λ r. coded SupertypeCycle r >>= (λ _. later mm >>= (λ _. Ok mm))) cycle ∙ ap (λ r. r >>= (λ _. Ok mm)) rest
 
-pub check-refused : (mm : Metamodel) (refusal : MetamodelRefusal) → no_cycle mm ≡ Ok tt → Answers {A = ⊤} (Err refusal) (later mm) → Answers {A = Metamodel} (Err refusal) (check mm)
+pub check-refused : (mm : Metamodel) (refusal : FileRefusal MetamodelCode) → no_cycle mm ≡ Ok tt → AsDefined {A = ⊤} code_at (later mm) (Err refusal) → AsDefined {A = Metamodel} code_at (check mm) (Err refusal)
 unfolding check
-check-refused mm (At code place) cycle rest =
-    ap (λ r. coded SupertypeCycle r >>= (λ _. later mm >>= (λ _. Ok mm))) cycle ∙ ap (λ r. r >>= (λ _. Ok mm)) rest
-check-refused mm NoMemory cycle rest = tt
+check-refused mm refusal cycle rest =
+    answered_then {B = Metamodel} code_at (coded SupertypeCycle (no_cycle mm)) (λ _. later mm >>= (λ _. Ok mm)) tt (Err refusal) (ap (coded SupertypeCycle) cycle) (answered_first code_at (later mm) (λ _. Ok mm) refusal rest)

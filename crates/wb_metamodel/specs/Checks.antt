@@ -1,21 +1,21 @@
 -- What a text is as a metamodel: the metamodel, or the first code with the place of the first wrong spot.
 -- Each check goes over the whole document, one after the other.
-use Rattle.std.specs.Prelude.{◌≡◌, ⊤, ℕ, ◌&&◌, ◌||◌, nat_eq, nat_le, not, Bool, true, false, if◌then◌else◌, List, [], ◌++◌, length, count_by, take, Option, Some, None, option_map, Result, Ok, Err, codes}
+use Rattle.std.specs.Prelude.{⊤, ℕ, ◌&&◌, ◌||◌, nat_eq, nat_le, not, Bool, true, false, if◌then◌else◌, List, [], length, count_by, take, Option, Some, None, option_map, Result, Ok, Err, codes}
 use Rattle.std.specs.Option.{option_map_or}
 use Rattle.std.specs.List.{list_any}
 use Rattle.wb_json.specs.Place.{Place, at_member, at_index}
 use Rattle.wb_json.specs.Form.{or_wrong}
+use Rattle.wb_base.specs.Results.{◌>>=◌}
 use Rattle.wb_json.specs.Json.{json_of}
+pub use Rattle.wb_json.specs.Refusals.{coded}
 use Rattle.wb_ecore.specs.declared.features.Feature.{Feature}
 use Rattle.wb_ecore.specs.declared.features.Kind.{Kind}
-use Rattle.wb_ecore.specs.declared.features.Kind.TheVariants.{Reference}
+use Rattle.wb_ecore.specs.declared.features.Kind.TheVariants.{Int, Bool as BoolKind, Text, Enum, Reference}
 use Rattle.wb_ecore.specs.declared.refusal.MetamodelCode.{MetamodelCode}
 use Rattle.wb_ecore.specs.declared.refusal.MetamodelCode.TheVariants.{BadJson, BadShape, DuplicateName, UnknownName, SupertypeCycle, OppositeMismatch, TooMany}
-use Rattle.wb_ecore.specs.declared.refusal.MetamodelRefusal.{MetamodelRefusal}
-use Rattle.wb_ecore.specs.declared.refusal.MetamodelRefusal.TheVariants.{At, NoMemory}
 use Rattle.wb_ecore.specs.declared.document.Document.{Document}
 use Rattle.wb_ecore.specs.Document.{document_of}
-use Rattle.wb_ecore.specs.Repeats.{◌>>=◌, none_is, unrepeated_names}
+use Rattle.wb_ecore.specs.Repeats.{none_is, unrepeated_names}
 use Rattle.wb_ecore.specs.Resolving.{resolved}
 use Rattle.wb_metamodel.specs.Metamodel.{Metamodel, same_name, names_feature, numbers, is_below, features_of, feature_at, literal_total}
 
@@ -47,7 +47,10 @@ no_clash mm = none_is (has_clash mm) wrong_class (numbers (length mm.classes))
 
 abbrev pub refers_to : Kind → ℕ → Bool
 refers_to (Reference c) owner = nat_eq c owner
-refers_to _ owner = false
+refers_to Int owner = false
+refers_to BoolKind owner = false
+refers_to Text owner = false
+refers_to (Enum e) owner = false
 
 -- do a feature and its opposite not fit? The opposite names it back and refers to its class.
 -- Not both are containments, and a reference whose opposite is a containment holds at most one.
@@ -73,15 +76,10 @@ opposites_match mm = none_is (has_mismatch mm) (wrong_feature mm) (numbers (leng
 abbrev pub is_small : Metamodel → Bool
 is_small mm = nat_le (length mm.classes) 1000 && nat_le (length mm.features) 10000 && nat_le (length mm.enumerations) 1000 && nat_le (literal_total mm) 10000
 
-abbrev pub few : Metamodel → Result ⊤ Place
-few mm = if is_small mm then Ok tt else Err []
+abbrev pub within_limits : Metamodel → Result ⊤ Place
+within_limits mm = if is_small mm then Ok tt else Err []
 
 -- ---- the whole
-
--- a code with its place, seen from the whole text
-abbrev pub coded : {A : Type 0} → MetamodelCode → Result A Place → Result A (MetamodelCode × Place)
-coded code (Ok v) = Ok v
-coded code (Err place) = Err (code, codes "#" ++ place)
 
 unfoldable pub read_document : List ℕ → Result Document (MetamodelCode × Place)
 read_document bytes = do
@@ -98,7 +96,7 @@ unfoldable pub later : Metamodel → Result ⊤ (MetamodelCode × Place)
 later mm = do
   _ ← coded DuplicateName (no_clash mm)
   _ ← coded OppositeMismatch (opposites_match mm)
-  coded TooMany (few mm)
+  coded TooMany (within_limits mm)
 
 unfoldable pub check : Metamodel → Result Metamodel (MetamodelCode × Place)
 check mm = do
@@ -111,14 +109,3 @@ metamodel bytes = do
   document ← read_document bytes
   mm ← resolve document
   check mm
-
--- this code and place, seen from the whole text, or want of memory
-abbrev pub Refuses : MetamodelRefusal → MetamodelCode → Place → Type 0
-Refuses (At code place) wanted from = (code ≡ wanted) × (place ≡ codes "#" ++ from)
-Refuses NoMemory wanted from = ⊤
-
--- the answer is the definition's, and only for want of memory there may be none
-abbrev pub Answers : {A : Type 0} → Result A MetamodelRefusal → Result A (MetamodelCode × Place) → Type 0
-Answers (Ok v) given = given ≡ Ok v
-Answers (Err (At code place)) given = given ≡ Err (code, place)
-Answers (Err NoMemory) given = ⊤

@@ -1,6 +1,4 @@
 pub mod Checks
-pub mod Inherited
-pub mod Inside
 pub mod Metamodel
-pub mod Tables
 pub mod WellFormed
+pub mod invariants

@@ -1,17 +1,19 @@
 -- A metamodel, after Ecore: classes with supertypes, features and enumerations.
 -- The number of a class, a feature or an enumeration is its place in these lists.
-use Rattle.std.specs.Prelude.{ℕ, Bool, false, ◌||◌, nat_eq, IsTrue, List, [], ◌∷◌, ◌++◌, length, filter, find, slice_get, Option, Some, None, option_and_then, sum_by, zero, suc, not, if◌then◌else◌}
+use Rattle.std.specs.Prelude.{◌≡◌, ◌⊎◌, ℕ, Bool, false, ◌||◌, nat_eq, List, [], ◌++◌, length, filter, find, slice_get, Option, Some, None, option_and_then, sum_by, zero, suc}
 use Rattle.std.specs.Option.{option_map_or}
 use Rattle.std.specs.List.{list_any, flat_map, position}
 use Rattle.wb_ecore.specs.declared.classes.Class.{Class}
-use Rattle.wb_ecore.specs.declared.content.Content.{Content}
+use Rattle.wb_ecore.specs.declared.packages.Package.{Package}
 use Rattle.wb_ecore.specs.declared.classes.Enumeration.{Enumeration}
 use Rattle.wb_ecore.specs.declared.features.Feature.{Feature}
-pub use Rattle.wb_ecore.specs.Naming.{same_name, numbers}
+pub use Rattle.wb_base.specs.Names.{same_name}
+pub use Rattle.wb_base.specs.Lists.{numbers, first_places}
+use Rattle.wb_base.specs.Paths.{Leads, leads_through}
 
 -- a metamodel: the name of its package, its classes, its features and its enumerations
 abbrev pub Metamodel : Type 0
-Metamodel = Content
+Metamodel = Package
 
 -- ---- the hierarchy of classes
 
@@ -24,29 +26,18 @@ abbrev pub is_supertype : Metamodel → ℕ → ℕ → Bool
 is_supertype mm a b = list_any (nat_eq b) (supertypes_of mm a)
 
 -- a path of supertypes leads from the one class to the other, also the empty path (Ecore: `isSuperTypeOf`)
-pub data Conforms (mm : Metamodel) : ℕ → ℕ → Type 0 where
-  itself : {a : ℕ} → Conforms mm a a
-  upwards : {a b c : ℕ} → IsTrue (is_supertype mm a b) → Conforms mm b c → Conforms mm a c
-
--- does a path of one or more steps lead from a to b, that has between its ends classes of this list alone?
-unfoldable pub leads_through : Metamodel → List ℕ → ℕ → ℕ → Bool
-leads_through mm [] a b = is_supertype mm a b
-leads_through mm (k ∷ ks) a b = leads_through mm ks a b || (if leads_through mm ks a k then leads_through mm ks k b else false)
+abbrev pub Conforms : Metamodel → ℕ → ℕ → Type 0
+Conforms mm a b = (a ≡ b) ⊎ Leads (is_supertype mm) a b
 
 -- does a path of one or more steps lead from a to b?
 unfoldable pub is_below : Metamodel → ℕ → ℕ → Bool
-is_below mm a b = leads_through mm (numbers (length mm.classes)) a b
+is_below mm a b = leads_through (is_supertype mm) (numbers (length mm.classes)) a b
 
 -- the same test with the empty path; for every metamodel it holds exactly where `Conforms` does
 unfoldable pub conforms : Metamodel → ℕ → ℕ → Bool
 conforms mm a b = nat_eq a b || is_below mm a b
 
 -- ---- the features of a class
-
--- each number at its first place alone
-abbrev pub first_places : List ℕ → List ℕ
-first_places [] = []
-first_places (x ∷ xs) = x ∷ filter (λ y. not (nat_eq x y)) (first_places xs)
 
 -- the features that a class declares itself, in document order
 abbrev pub own_features : Metamodel → ℕ → List ℕ

@@ -1,6 +1,6 @@
 -- What is true of every metamodel that was read.
 use Rattle.std.specs.Prelude.{◌≡◌, ◌≢◌, ℕ, ◌<◌, ◌≤◌, true, false, List, length, Contains, Some, slice_get}
-use Rattle.wb_json.specs.Form.{is_name}
+use Rattle.wb_base.specs.Names.{is_name}
 use Rattle.wb_ecore.specs.declared.classes.Class.{Class}
 use Rattle.wb_ecore.specs.declared.classes.Enumeration.{Enumeration}
 use Rattle.wb_ecore.specs.declared.features.Feature.{Feature}
@@ -18,7 +18,10 @@ KindIsKnown mm (Reference c) = c < length mm.classes
 
 abbrev pub IsReference : Kind → Type 0
 IsReference (Reference c) = Unit {0}
-IsReference _ = ⊥
+IsReference Int = ⊥
+IsReference BoolKind = ⊥
+IsReference Text = ⊥
+IsReference (Enum e) = ⊥
 
 -- two features are opposites: two references that name each other, each to the class of the other
 pub record AreOpposite (f : ℕ) (feature : Feature) (g : ℕ) (other : Feature) : Type 0 where

@@ -3,29 +3,29 @@ ghost use Rattle.std.specs.List.{list_any};
 ghost use Rattle.wb_json.specs.Form.{Gives};
 ghost use Rattle.wb_json.specs.Place.{at_member, at_index};
 ghost use Rattle.wb_metamodel.specs.Metamodel as definition;
-ghost use Rattle.wb_metamodel.specs.Tables.{TablesOf, is_other, below_table};
-ghost use Rattle.wb_metamodel.specs.Checks.{wrong_class, wrong_feature, no_cycle, no_clash, opposites_match, few, has_clash, has_mismatch, is_mismatched, unfit, refers_to, is_small};
+ghost use Rattle.wb_metamodel.specs.invariants.Tables.{TablesOf, is_other, below_table};
+ghost use Rattle.wb_metamodel.specs.Checks.{wrong_class, wrong_feature, no_cycle, no_clash, opposites_match, within_limits, has_clash, has_mismatch, is_mismatched, unfit, refers_to, is_small};
 
 use crate::lookup::Tables;
 use std::alloc::Global;
 use wb_base::List;
-use wb_ecore::{ClassId, Content, Enumeration, Feature, FeatureId, Kind};
+use wb_ecore::{ClassId, Enumeration, Feature, FeatureId, Kind, Package};
 use wb_json::Wrong;
 
 /// No class is its own supertype.
-pub fn no_cycle(alloc: Global, content: &Content, below: &[List<bool>]) -> Result<(), Wrong>
-    requires { below.now ≡ below_table content.now }
-    ensures { Gives result (no_cycle content.now) }
+pub fn no_cycle(alloc: Global, elements: &Package, below: &[List<bool>]) -> Result<(), Wrong>
+    requires { below.now ≡ below_table elements.now }
+    ensures { Gives result (no_cycle elements.now) }
 {
-    match first_cycle(content, below) {
+    match first_cycle(elements, below) {
         None => Ok(()),
         Some(class) => Err(class_wrong(alloc, class)),
     }
 }
 
-fn first_cycle(content: &Content, below: &[List<bool>]) -> Option<usize>
-    requires { below.now ≡ below_table content.now }
-    ensures { result ≡ find (λ c. definition.is_below content.now c c) (definition.numbers (length content.now.classes)) }
+fn first_cycle(elements: &Package, below: &[List<bool>]) -> Option<usize>
+    requires { below.now ≡ below_table elements.now }
+    ensures { result ≡ find (λ c. definition.is_below elements.now c c) (definition.numbers (length elements.now.classes)) }
 {
     for (class, row) in below.iter().enumerate() {
         if row.as_slice()[class] {
@@ -44,32 +44,32 @@ fn class_wrong(alloc: Global, class: usize) -> Wrong
 }
 
 /// No class has two features of one name.
-pub fn no_clash(alloc: Global, content: &Content, tables: &Tables) -> Result<(), Wrong>
-    requires { TablesOf content.now tables.now }
-    ensures { Gives result (no_clash content.now) }
+pub fn no_clash(alloc: Global, elements: &Package, tables: &Tables) -> Result<(), Wrong>
+    requires { TablesOf elements.now tables.now }
+    ensures { Gives result (no_clash elements.now) }
 {
-    match first_clash(content, tables) {
+    match first_clash(elements, tables) {
         None => Ok(()),
         Some(class) => Err(class_wrong(alloc, class)),
     }
 }
 
-fn first_clash(content: &Content, tables: &Tables) -> Option<usize>
-    requires { TablesOf content.now tables.now }
-    ensures { result ≡ find (has_clash content.now) (definition.numbers (length content.now.classes)) }
+fn first_clash(elements: &Package, tables: &Tables) -> Option<usize>
+    requires { TablesOf elements.now tables.now }
+    ensures { result ≡ find (has_clash elements.now) (definition.numbers (length elements.now.classes)) }
 {
-    for class in 0..content.classes.len() {
-        if has_clash(content, tables, class) {
+    for class in 0..elements.classes.len() {
+        if has_clash(elements, tables, class) {
             return Some(class);
         }
     }
     None
 }
 
-fn has_clash(content: &Content, tables: &Tables, class: usize) -> bool
-    requires tables { TablesOf content.now tables.now }
-    requires class { class < length content.now.classes }
-    ensures { result ≡ has_clash content.now class }
+fn has_clash(elements: &Package, tables: &Tables, class: usize) -> bool
+    requires tables { TablesOf elements.now tables.now }
+    requires class { class < length elements.now.classes }
+    ensures { result ≡ has_clash elements.now class }
 {
     let row = tables.features_by_name.as_slice()[class].as_slice();
     has_other(
@@ -95,33 +95,33 @@ fn has_other(row: &[Option<FeatureId>], places: &[u32], own: &[FeatureId]) -> bo
 }
 
 /// Opposites name each other and fit.
-pub fn opposites_match(alloc: Global, content: &Content) -> Result<(), Wrong>
-    ensures { Gives result (opposites_match content.now) }
+pub fn opposites_match(alloc: Global, elements: &Package) -> Result<(), Wrong>
+    ensures { Gives result (opposites_match elements.now) }
 {
-    match first_mismatch(content) {
+    match first_mismatch(elements) {
         None => Ok(()),
-        Some(feature) => Err(feature_wrong(alloc, content, feature)),
+        Some(feature) => Err(feature_wrong(alloc, elements, feature)),
     }
 }
 
-fn first_mismatch(content: &Content) -> Option<usize>
-    ensures value { result ≡ find (has_mismatch content.now) (definition.numbers (length content.now.features)) }
-    ensures known { IfSome result (λ number. number < length content.now.features) }
+fn first_mismatch(elements: &Package) -> Option<usize>
+    ensures value { result ≡ find (has_mismatch elements.now) (definition.numbers (length elements.now.features)) }
+    ensures known { IfSome result (λ number. number < length elements.now.features) }
 {
-    for (number, feature) in content.features.as_slice().iter().enumerate() {
-        if has_mismatch(content, number, feature) {
+    for (number, feature) in elements.features.as_slice().iter().enumerate() {
+        if has_mismatch(elements, number, feature) {
             return Some(number);
         }
     }
     None
 }
 
-fn has_mismatch(content: &Content, number: usize, feature: &Feature) -> bool
-    ensures { result ≡ is_mismatched content.now number feature.now feature.now.opposite }
+fn has_mismatch(elements: &Package, number: usize, feature: &Feature) -> bool
+    ensures { result ≡ is_mismatched elements.now number feature.now feature.now.opposite }
 {
     match feature.opposite {
         None => false,
-        Some(opposite) => match content.features.as_slice().get(opposite.0 as usize) {
+        Some(opposite) => match elements.features.as_slice().get(opposite.0 as usize) {
             None => true,
             Some(other) => unfit(number, feature, opposite, other),
         },
@@ -152,15 +152,15 @@ fn refers_to(kind: Kind, class: ClassId) -> bool
 {
     match kind {
         Kind::Reference(target) => target.0 == class.0,
-        _ => false,
+        Kind::Int | Kind::Bool | Kind::Text | Kind::Enum(_) => false,
     }
 }
 
-fn feature_wrong(alloc: Global, content: &Content, number: usize) -> Wrong
-    requires { number < length content.now.features }
-    ensures { Gives (Err result) (wrong_feature content.now number) }
+fn feature_wrong(alloc: Global, elements: &Package, number: usize) -> Wrong
+    requires { number < length elements.now.features }
+    ensures { Gives (Err result) (wrong_feature elements.now number) }
 {
-    let features = content.features.as_slice();
+    let features = elements.features.as_slice();
     let owner = features[number].owner;
     wrong_at(alloc, owner, count_of(&features[..number], owner))
 }
@@ -187,23 +187,23 @@ fn wrong_at(alloc: Global, class: ClassId, place: usize) -> Wrong
 }
 
 /// The limits of a metamodel.
-pub fn few(alloc: Global, content: &Content) -> Result<(), Wrong>
-    ensures { Gives result (few content.now) }
+pub fn within_limits(alloc: Global, elements: &Package) -> Result<(), Wrong>
+    ensures { Gives result (within_limits elements.now) }
 {
-    if is_small(content) {
+    if is_small(elements) {
         Ok(())
     } else {
         Err(Wrong::here(alloc))
     }
 }
 
-fn is_small(content: &Content) -> bool
-    ensures { result ≡ is_small content.now }
+fn is_small(elements: &Package) -> bool
+    ensures { result ≡ is_small elements.now }
 {
-    content.classes.len() <= 1000
-        && content.features.len() <= 10_000
-        && content.enumerations.len() <= 1000
-        && has_few_literals(content.enumerations.as_slice())
+    elements.classes.len() <= 1000
+        && elements.features.len() <= 10_000
+        && elements.enumerations.len() <= 1000
+        && has_few_literals(elements.enumerations.as_slice())
 }
 
 fn has_few_literals(enumerations: &[Enumeration]) -> bool

@@ -1,18 +1,18 @@
 ghost use Rattle.std.specs.Prelude.{◌≡◌, ◌<◌, ℕ, true, [], length, map, IfOk, slice_index_or};
 ghost use Rattle.wb_metamodel.specs.Metamodel as definition;
-ghost use Rattle.wb_metamodel.specs.Tables.{or_row, widened, direct_row, below_table};
+ghost use Rattle.wb_metamodel.specs.invariants.Tables.{or_row, widened, direct_row, below_table};
 
 use std::alloc::{AllocError, Global};
 use wb_base::List;
-use wb_ecore::{Class, ClassId, Content};
+use wb_ecore::{Class, ClassId, Package};
 
 /// For each pair of classes, whether a path of one or more supertypes leads from the first to the second.
-pub fn below_table(alloc: Global, content: &Content) -> Result<List<List<bool>>, AllocError>
-    requires { (c s : ℕ) → definition.is_supertype content.now c s ≡ true → s < length content.now.classes }
-    ensures { IfOk result (λ table. table ≡ below_table content.now) }
+pub fn below_table(alloc: Global, elements: &Package) -> Result<List<List<bool>>, AllocError>
+    requires { (c s : ℕ) → definition.is_supertype elements.now c s ≡ true → s < length elements.now.classes }
+    ensures { IfOk result (λ table. table ≡ below_table elements.now) }
 {
-    let count = content.classes.len();
-    let mut table = direct_table(alloc, content.classes.as_slice())?;
+    let count = elements.classes.len();
+    let mut table = direct_table(alloc, elements.classes.as_slice())?;
     for done in 0..count {
         table = through(alloc, table, count - 1 - done)?;
     }

@@ -1,27 +1,27 @@
 ghost use Rattle.std.specs.Prelude.{◌≡◌, ◌<◌, ◌≤◌, ◌+◌, ◌++◌, ◌^◌, ℕ, true, false, [], length, map, count_by, All, IfOk, OnOk, nat_eq, slice_index_or};
 ghost use Rattle.std.specs.List.{list_any, flat_map};
 ghost use Rattle.wb_metamodel.specs.Metamodel as definition;
-ghost use Rattle.wb_metamodel.specs.Tables.{below_table, features_table, rank_of};
-ghost use Rattle.wb_metamodel.specs.Inherited.{IsHierarchy, FilledTo, all_features};
+ghost use Rattle.wb_metamodel.specs.invariants.Tables.{below_table, features_table, rank_of};
+ghost use Rattle.wb_metamodel.specs.invariants.Inherited.{IsHierarchy, FilledTo, all_features};
 
 use std::alloc::{AllocError, Global};
 use wb_base::List;
-use wb_ecore::{ClassId, Content, FeatureId};
+use wb_ecore::{ClassId, FeatureId, Package};
 
 /// The features of each class, where no class is its own supertype.
 pub fn features_table(
     alloc: Global,
-    content: &Content,
+    elements: &Package,
     below: &[List<bool>],
 ) -> Result<List<List<FeatureId>>, AllocError>
-    requires below { below.now ≡ below_table content.now }
-    requires hierarchy { IsHierarchy content.now }
-    ensures { IfOk result (λ table. table ≡ features_table content.now) }
+    requires below { below.now ≡ below_table elements.now }
+    requires hierarchy { IsHierarchy elements.now }
+    ensures { IfOk result (λ table. table ≡ features_table elements.now) }
 {
     let ranks = ranks(alloc, below)?;
-    let mut table = empty_table(alloc, content.classes.len())?;
-    for rank in 0..content.classes.len() {
-        fill_rank(alloc, content, ranks.as_slice(), rank, &mut table)?;
+    let mut table = empty_table(alloc, elements.classes.len())?;
+    for rank in 0..elements.classes.len() {
+        fill_rank(alloc, elements, ranks.as_slice(), rank, &mut table)?;
     }
     Ok(List::from_vec(table))
 }
@@ -56,19 +56,19 @@ fn empty_table(alloc: Global, count: usize) -> Result<Vec<List<FeatureId>>, Allo
 /// Fills in the features of the classes of a rank, where those of the lower ranks are filled in.
 fn fill_rank(
     alloc: Global,
-    content: &Content,
+    elements: &Package,
     ranks: &[usize],
     rank: usize,
     table: &mut Vec<List<FeatureId>>,
 ) -> Result<(), AllocError>
-    requires hierarchy { IsHierarchy content.now }
-    requires ranks { ranks.now ≡ map (rank_of content.now) (definition.numbers (length content.now.classes)) }
-    requires filled { FilledTo content.now table.old.items rank }
-    ensures { OnOk result (FilledTo content.now table.new.items (rank + 1)) }
+    requires hierarchy { IsHierarchy elements.now }
+    requires ranks { ranks.now ≡ map (rank_of elements.now) (definition.numbers (length elements.now.classes)) }
+    requires filled { FilledTo elements.now table.old.items rank }
+    ensures { OnOk result (FilledTo elements.now table.new.items (rank + 1)) }
 {
     for class in 0..ranks.len() {
         if ranks[class] == rank {
-            let features = features_of(alloc, content, table.as_slice(), ClassId(class as u32))?;
+            let features = features_of(alloc, elements, table.as_slice(), ClassId(class as u32))?;
             table[class] = features;
         }
     }
@@ -78,25 +78,25 @@ fn fill_rank(
 /// The features of a class, where those of its supertypes stand in the table.
 fn features_of(
     alloc: Global,
-    content: &Content,
+    elements: &Package,
     table: &[List<FeatureId>],
     class: ClassId,
 ) -> Result<List<FeatureId>, AllocError>
-    requires class { class < length content.now.classes }
-    requires features { length content.now.features < 2 ^ 32 }
-    requires supertypes { (s : ℕ) → definition.is_supertype content.now class s ≡ true → s < length table.now }
-    requires known { (f : ℕ) → list_any (nat_eq f) (all_features content.now table.now class) ≡ true → f < length content.now.features }
-    ensures { IfOk result (λ features. features ≡ definition.first_places (all_features content.now table.now class)) }
+    requires class { class < length elements.now.classes }
+    requires features { length elements.now.features < 2 ^ 32 }
+    requires supertypes { (s : ℕ) → definition.is_supertype elements.now class s ≡ true → s < length table.now }
+    requires known { (f : ℕ) → list_any (nat_eq f) (all_features elements.now table.now class) ≡ true → f < length elements.now.features }
+    ensures { IfOk result (λ features. features ≡ definition.first_places (all_features elements.now table.now class)) }
 {
     let mut all = of_supertypes(
         alloc,
-        content.classes.as_slice()[class.0 as usize]
+        elements.classes.as_slice()[class.0 as usize]
             .supertypes
             .as_slice(),
         table,
     )?;
-    push_own(&mut all, content, class)?;
-    first_places(alloc, all.as_slice(), content.features.len())
+    push_own(&mut all, elements, class)?;
+    first_places(alloc, all.as_slice(), elements.features.len())
 }
 
 fn of_supertypes(
@@ -116,11 +116,11 @@ fn of_supertypes(
 }
 
 /// Puts the features that a class declares itself last.
-fn push_own(all: &mut Vec<FeatureId>, content: &Content, class: ClassId) -> Result<(), AllocError>
-    requires { length content.now.features < 2 ^ 32 }
-    ensures { OnOk result (all.new.items ≡ all.old.items ++ definition.own_features content.now class) }
+fn push_own(all: &mut Vec<FeatureId>, elements: &Package, class: ClassId) -> Result<(), AllocError>
+    requires { length elements.now.features < 2 ^ 32 }
+    ensures { OnOk result (all.new.items ≡ all.old.items ++ definition.own_features elements.now class) }
 {
-    for (number, feature) in content.features.as_slice().iter().enumerate() {
+    for (number, feature) in elements.features.as_slice().iter().enumerate() {
         if feature.owner == class {
             all.push(FeatureId(number as u32))?;
         }

@@ -4,11 +4,13 @@
 mod checking;
 mod hierarchy;
 mod inherited;
+mod laws;
 mod lookup;
 mod metamodel;
 mod reading;
 mod tables;
 
+pub use laws::features_are_inherited;
 pub use metamodel::Metamodel;
 pub use reading::read_metamodel;
 pub use wb_base::Text;

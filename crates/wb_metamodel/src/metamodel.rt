@@ -1,20 +1,28 @@
 ghost use Rattle.std.specs.Prelude.{◌≡◌, ◌<◌, ◌↔◌, IsTrue, Option, Some, IfSome, option_map, length, slice_get};
 ghost use Rattle.wb_metamodel.specs.Metamodel as definition;
 ghost use Rattle.wb_metamodel.specs.WellFormed.{WellFormed, IsWellFormed};
-ghost use Rattle.wb_metamodel.specs.Tables.{TablesOf};
+ghost use Rattle.wb_metamodel.specs.invariants.Tables.{TablesOf};
 
 use crate::lookup::Tables;
 use crate::tables::tables;
 use std::alloc::{AllocError, Global};
 use std::marker::Model;
 use wb_base::{Duplicate, Text};
-use wb_ecore::{ClassId, Content, EnumId, Feature, FeatureId};
+use wb_ecore::{ClassId, EnumId, Feature, FeatureId, Package};
 
 /// A metamodel: classes with supertypes, features and enumerations.
-#[derive(Drop)]
 pub struct Metamodel {
-    content: Content,
+    elements: Package,
     tables: Tables,
+}
+
+impl Drop for Metamodel {
+    fn drop(self) {
+        let Metamodel {
+            elements: _package,
+            tables: _tables,
+        } = self;
+    }
 }
 
 impl Model for Metamodel {
@@ -22,80 +30,80 @@ impl Model for Metamodel {
 
     ghost Value = { definition.Metamodel };
 
-    ghost use Rattle.wb_metamodel.specs.Inside.{HasTables};
+    ghost use Rattle.wb_metamodel.specs.invariants.Inside.{HasTables};
 
-    ghost view = { λ m. m.content };
+    ghost view = { λ m. m.elements };
 
     ghost invariant = { HasTables };
 }
 
 impl Metamodel {
     /// The metamodel of this content.
-    pub(crate) fn new(content: Content, tables: Tables) -> Metamodel
-        requires well_formed { IsWellFormed content }
-        requires tables { TablesOf content tables }
-        ensures { result ≡ content }
+    pub(crate) fn new(elements: Package, tables: Tables) -> Metamodel
+        requires well_formed { IsWellFormed elements }
+        requires tables { TablesOf elements tables }
+        ensures { result ≡ elements }
     {
-        Metamodel { content, tables }
+        Metamodel { elements, tables }
     }
 
     /// What is true of every metamodel.
     pub fn well_formed(&self)
         ensures { WellFormed self.now }
     {
-        let _ = &self.content.package_name;
+        let _ = &self.elements.package_name;
     }
 
     pub fn package(&self) -> &Text
         ensures { result.now ≡ self.now.package_name }
     {
-        &self.content.package_name
+        &self.elements.package_name
     }
 
     pub fn class_count(&self) -> u32
         ensures { result ≡ length self.now.classes }
     {
-        self.content.classes.len() as u32
+        self.elements.classes.len() as u32
     }
 
     pub fn feature_count(&self) -> u32
         ensures { result ≡ length self.now.features }
     {
-        self.content.features.len() as u32
+        self.elements.features.len() as u32
     }
 
     pub fn enum_count(&self) -> u32
         ensures { result ≡ length self.now.enumerations }
     {
-        self.content.enumerations.len() as u32
+        self.elements.enumerations.len() as u32
     }
 
     pub fn class_name(&self, c: ClassId) -> &Text
         requires { c < length self.now.classes }
         ensures { option_map (λ class. class.name) (definition.class_at self.now c) ≡ Some result.now }
     {
-        &self.content.classes.as_slice()[c.0 as usize].name
+        &self.elements.classes.as_slice()[c.0 as usize].name
     }
 
     pub fn is_abstract(&self, c: ClassId) -> bool
         requires { c < length self.now.classes }
         ensures { option_map (λ class. class.is_abstract) (definition.class_at self.now c) ≡ Some result }
     {
-        self.content.classes.as_slice()[c.0 as usize].is_abstract
+        self.elements.classes.as_slice()[c.0 as usize].is_abstract
     }
 
     pub fn feature(&self, f: FeatureId) -> &Feature
         requires { f < length self.now.features }
         ensures { definition.feature_at self.now f ≡ Some result.now }
     {
-        &self.content.features.as_slice()[f.0 as usize]
+        &self.elements.features.as_slice()[f.0 as usize]
     }
 
     pub fn literal_count(&self, e: EnumId) -> u32
         requires { e < length self.now.enumerations }
         ensures { result ≡ length (definition.literals_of self.now e) }
     {
-        self.content.enumerations.as_slice()[e.0 as usize]
+        self.elements.enumerations.as_slice()[e.0 as usize]
             .literals
             .len() as u32
     }
@@ -105,13 +113,15 @@ impl Metamodel {
         requires literal { literal < length (definition.literals_of self.now e) }
         ensures { slice_get (definition.literals_of self.now e) literal ≡ Some result.now }
     {
-        &self.content.enumerations.as_slice()[e.0 as usize]
+        &self.elements.enumerations.as_slice()[e.0 as usize]
             .literals
             .as_slice()[literal as usize]
     }
 
+    #[tactic(auto, using(crate::proofs::Ranges::class_known))]
     pub fn class_named(&self, name: &[u8]) -> Option<ClassId>
-        ensures { result ≡ definition.class_named self.now name.now }
+        ensures named { result ≡ definition.class_named self.now name.now }
+        ensures known { IfSome result (λ class. class < length self.now.classes) }
     {
         self.tables
             .class_names
@@ -119,8 +129,10 @@ impl Metamodel {
             .map(|number| ClassId(number))
     }
 
+    #[tactic(auto, using(crate::proofs::Ranges::enum_known))]
     pub fn enum_named(&self, name: &[u8]) -> Option<EnumId>
-        ensures { result ≡ definition.enum_named self.now name.now }
+        ensures named { result ≡ definition.enum_named self.now name.now }
+        ensures known { IfSome result (λ enumeration. enumeration < length self.now.enumerations) }
     {
         self.tables
             .enum_names
@@ -131,7 +143,8 @@ impl Metamodel {
     /// The feature of that name among all features of a class, inherited ones included.
     pub fn feature_named(&self, class: ClassId, name: &[u8]) -> Option<FeatureId>
         requires { class < length self.now.classes }
-        ensures { result ≡ definition.feature_named self.now class name.now }
+        ensures named { result ≡ definition.feature_named self.now class name.now }
+        ensures known { IfSome result (λ feature. feature < length self.now.features) }
     {
         match self.tables.feature_names.get(name) {
             None => None,
@@ -143,7 +156,8 @@ impl Metamodel {
 
     pub fn literal_named(&self, e: EnumId, name: &[u8]) -> Option<u32>
         requires { e < length self.now.enumerations }
-        ensures { result ≡ definition.literal_named self.now e name.now }
+        ensures named { result ≡ definition.literal_named self.now e name.now }
+        ensures known { IfSome result (λ literal. literal < length (definition.literals_of self.now e)) }
     {
         self.tables.literal_names.as_slice()[e.0 as usize].get(name)
     }
@@ -169,9 +183,9 @@ impl Metamodel {
 
 impl Duplicate for Metamodel {
     fn copy(&self, alloc: Global) -> Result<Metamodel, AllocError> {
-        let content = self.content.copy(alloc)?;
+        let elements = self.elements.copy(alloc)?;
         let below = self.tables.below.copy(alloc)?;
-        let tables = tables(alloc, &content, below)?;
-        Ok(Metamodel { content, tables })
+        let tables = tables(alloc, &elements, below)?;
+        Ok(Metamodel { elements, tables })
     }
 }

@@ -1,32 +1,33 @@
-ghost use Rattle.std.specs.Prelude.{◌≡◌, Ok, IfOk, codes, ◌++◌};
-ghost use Rattle.wb_json.specs.Form.{Gives};
+ghost use Rattle.std.specs.Prelude.{◌≡◌, Ok};
+ghost use Rattle.wb_base.specs.Answering.{AsDefined};
+ghost use Rattle.wb_json.specs.Refusals.{code_at};
 ghost use Rattle.wb_ecore.specs.Document.{HasNames};
-ghost use Rattle.wb_metamodel.specs.Tables.{TablesOf};
-ghost use Rattle.wb_metamodel.specs.Checks.{Answers, Refuses, coded, metamodel, read_document, resolve, check, later};
+ghost use Rattle.wb_metamodel.specs.invariants.Tables.{TablesOf};
+ghost use Rattle.wb_metamodel.specs.Checks.{metamodel, read_document, resolve, check, later};
 
-use crate::checking::{few, no_clash, no_cycle, opposites_match};
+use crate::checking::{no_clash, no_cycle, opposites_match, within_limits};
 use crate::hierarchy::below_table;
 use crate::lookup::Tables;
 use crate::metamodel::Metamodel;
 use crate::tables::tables;
-use std::alloc::{AllocError, Global};
+use std::alloc::Global;
 use wb_base::Text;
-use wb_ecore::{Content, Document, MetamodelCode, MetamodelRefusal, resolved, unrepeated_names};
-use wb_json::{Form, Wrong, parse_json};
+use wb_ecore::{Document, MetamodelCode, MetamodelRefusal, Package, resolved, unrepeated_names};
+use wb_json::{Form, at_root, coded, parse_json};
 
 /// The metamodel that a JSON text is, or what is wrong with it first, and where.
 #[tactic(auto, unfolding(crate::specs::Checks::metamodel))]
 pub fn read_metamodel(alloc: Global, bytes: &[u8]) -> Result<Metamodel, MetamodelRefusal>
-    ensures { Answers result (metamodel bytes.now) }
+    ensures { AsDefined code_at (metamodel bytes.now) result }
 {
     let document = read_document(alloc, bytes)?;
-    let content = resolve(alloc, &document)?;
-    checked(alloc, &document, content)
+    let elements = resolve(alloc, &document)?;
+    checked(alloc, &document, elements)
 }
 
 #[tactic(auto, unfolding(crate::specs::Checks::read_document))]
 fn read_document(alloc: Global, bytes: &[u8]) -> Result<Document, MetamodelRefusal>
-    ensures { Answers result (read_document bytes.now) }
+    ensures { AsDefined code_at (read_document bytes.now) result }
 {
     match parse_json(alloc, bytes)? {
         Some(value) => coded(
@@ -34,7 +35,7 @@ fn read_document(alloc: Global, bytes: &[u8]) -> Result<Document, MetamodelRefus
             MetamodelCode::BadShape,
             Document::read(alloc, &value),
         ),
-        None => Err(refused(
+        None => Err(at_root(
             alloc,
             MetamodelCode::BadJson,
             &Text::from_string(String::new(alloc)),
@@ -43,8 +44,8 @@ fn read_document(alloc: Global, bytes: &[u8]) -> Result<Document, MetamodelRefus
 }
 
 #[tactic(auto, unfolding(crate::specs::Checks::resolve))]
-fn resolve(alloc: Global, document: &Document) -> Result<Content, MetamodelRefusal>
-    ensures { Answers result (resolve document.now) }
+fn resolve(alloc: Global, document: &Document) -> Result<Package, MetamodelRefusal>
+    ensures { AsDefined code_at (resolve document.now) result }
 {
     coded(
         alloc,
@@ -60,76 +61,47 @@ fn resolve(alloc: Global, document: &Document) -> Result<Content, MetamodelRefus
 fn checked(
     alloc: Global,
     document: &Document,
-    content: Content,
+    elements: Package,
 ) -> Result<Metamodel, MetamodelRefusal>
     requires names { HasNames document.now }
-    requires resolved { resolve document.now ≡ Ok content }
-    ensures { Answers result (check content) }
+    requires resolved { resolve document.now ≡ Ok elements }
+    ensures { AsDefined code_at (check elements) result }
 {
-    if content.classes.len() > u32::MAX as usize || content.features.len() > u32::MAX as usize {
+    if elements.classes.len() > u32::MAX as usize || elements.features.len() > u32::MAX as usize {
         return Err(MetamodelRefusal::NoMemory);
     }
-    let below = below_table(alloc, &content)?;
+    let below = below_table(alloc, &elements)?;
     coded(
         alloc,
         MetamodelCode::SupertypeCycle,
-        no_cycle(alloc, &content, below.as_slice()),
+        no_cycle(alloc, &elements, below.as_slice()),
     )?;
-    let tables = tables(alloc, &content, below)?;
-    match later(alloc, &content, &tables) {
-        Ok(()) => Ok(Metamodel::new(content, tables)),
+    let tables = tables(alloc, &elements, below)?;
+    match later(alloc, &elements, &tables) {
+        Ok(()) => Ok(Metamodel::new(elements, tables)),
         Err(refusal) => Err(refusal),
     }
 }
 
 /// The checks of inherited names, opposites and limits.
 #[tactic(auto, unfolding(crate::specs::Checks::later))]
-fn later(alloc: Global, content: &Content, tables: &Tables) -> Result<(), MetamodelRefusal>
-    requires { TablesOf content.now tables.now }
-    ensures { Answers result (later content.now) }
+fn later(alloc: Global, elements: &Package, tables: &Tables) -> Result<(), MetamodelRefusal>
+    requires { TablesOf elements.now tables.now }
+    ensures { AsDefined code_at (later elements.now) result }
 {
     coded(
         alloc,
         MetamodelCode::DuplicateName,
-        no_clash(alloc, content, tables),
+        no_clash(alloc, elements, tables),
     )?;
     coded(
         alloc,
         MetamodelCode::OppositeMismatch,
-        opposites_match(alloc, content),
+        opposites_match(alloc, elements),
     )?;
-    coded(alloc, MetamodelCode::TooMany, few(alloc, content))
-}
-
-/// What was found, under this code.
-fn coded<T>(
-    alloc: Global,
-    code: MetamodelCode,
-    found: Result<T, Wrong>,
-) -> Result<T, MetamodelRefusal>
-    ensures { (given : _) → Gives found given → Answers result (coded code given) }
-{
-    match found {
-        Ok(value) => Ok(value),
-        Err(Wrong::At(place)) => Err(refused(alloc, code, &place)),
-        Err(Wrong::NoMemory) => Err(MetamodelRefusal::NoMemory),
-    }
-}
-
-fn refused(alloc: Global, code: MetamodelCode, place: &Text) -> MetamodelRefusal
-    ensures { Refuses result code place.now }
-{
-    match from_root(alloc, place) {
-        Ok(place) => MetamodelRefusal::At(code, place),
-        Err(_) => MetamodelRefusal::NoMemory,
-    }
-}
-
-/// A place, seen from the whole text.
-fn from_root(alloc: Global, place: &Text) -> Result<Text, AllocError>
-    ensures { IfOk result (λ whole. whole ≡ codes "#" ++ place.now) }
-{
-    let mut whole = String::from_str(alloc, "#")?;
-    whole.push_str(place.as_str())?;
-    Ok(Text::from_string(whole))
+    coded(
+        alloc,
+        MetamodelCode::TooMany,
+        within_limits(alloc, elements),
+    )
 }

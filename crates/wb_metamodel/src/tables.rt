@@ -1,35 +1,35 @@
 ghost use Rattle.std.specs.Prelude.{◌≡◌, ◌<◌, ◌^◌, ℕ, List, Some, None, IfOk, length, map, All, slice_get, unwrap_or};
 ghost use Rattle.std.specs.List.{AllZip};
-ghost use Rattle.wb_ecore.specs.Names.{number_of};
-ghost use Rattle.wb_metamodel.specs.Tables.{LiteralPlaces, HasRow, TablesOf, below_table};
-ghost use Rattle.wb_metamodel.specs.Inherited.{IsHierarchy};
+ghost use Rattle.wb_ecore.specs.invariants.NumberedNames.{number_of};
+ghost use Rattle.wb_metamodel.specs.invariants.Tables.{LiteralPlaces, HasRow, TablesOf, below_table};
+ghost use Rattle.wb_metamodel.specs.invariants.Inherited.{IsHierarchy};
 
 use crate::inherited::features_table;
 use crate::lookup::Tables;
 use std::alloc::{AllocError, Global};
 use wb_base::List;
-use wb_ecore::{Content, Enumeration, Feature, FeatureId, Names};
+use wb_ecore::{Enumeration, Feature, FeatureId, NumberedNames, Package};
 
 /// What a metamodel is looked up by, of one whose classes have no cycle.
 pub fn tables(
     alloc: Global,
-    content: &Content,
+    elements: &Package,
     below: List<List<bool>>,
 ) -> Result<Tables, AllocError>
-    requires below { below ≡ below_table content.now }
-    requires hierarchy { IsHierarchy content.now }
-    ensures { IfOk result (λ tables. TablesOf content.now tables) }
+    requires below { below ≡ below_table elements.now }
+    requires hierarchy { IsHierarchy elements.now }
+    ensures { IfOk result (λ tables. TablesOf elements.now tables) }
 {
-    let class_features = features_table(alloc, content, below.as_slice())?;
-    let feature_names = Names::of(alloc, content.features.as_slice())?;
-    let feature_places = places(alloc, &feature_names, content.features.as_slice())?;
+    let class_features = features_table(alloc, elements, below.as_slice())?;
+    let feature_names = NumberedNames::of(alloc, elements.features.as_slice())?;
+    let feature_places = places(alloc, &feature_names, elements.features.as_slice())?;
     let features_by_name = rows(alloc, feature_places.as_slice(), class_features.as_slice())?;
     Ok(Tables {
         below,
         class_features,
-        class_names: Names::of(alloc, content.classes.as_slice())?,
-        enum_names: Names::of(alloc, content.enumerations.as_slice())?,
-        literal_names: literal_names(alloc, content.enumerations.as_slice())?,
+        class_names: NumberedNames::of(alloc, elements.classes.as_slice())?,
+        enum_names: NumberedNames::of(alloc, elements.enumerations.as_slice())?,
+        literal_names: literal_names(alloc, elements.enumerations.as_slice())?,
         feature_names,
         feature_places,
         features_by_name,
@@ -37,18 +37,25 @@ pub fn tables(
 }
 
 /// The places of each enumeration's literals.
-fn literal_names(alloc: Global, enumerations: &[Enumeration]) -> Result<List<Names>, AllocError>
+fn literal_names(
+    alloc: Global,
+    enumerations: &[Enumeration],
+) -> Result<List<NumberedNames>, AllocError>
     ensures { IfOk result (λ tables. LiteralPlaces tables enumerations.now) }
 {
     let mut tables = Vec::new(alloc);
     for enumeration in enumerations {
-        tables.push(Names::of(alloc, enumeration.literals.as_slice())?)?;
+        tables.push(NumberedNames::of(alloc, enumeration.literals.as_slice())?)?;
     }
     Ok(List::from_vec(tables))
 }
 
 /// For each feature the number of its name.
-fn places(alloc: Global, names: &Names, features: &[Feature]) -> Result<List<u32>, AllocError>
+fn places(
+    alloc: Global,
+    names: &NumberedNames,
+    features: &[Feature],
+) -> Result<List<u32>, AllocError>
     ensures { IfOk result (λ places. places ≡ map (λ feature. unwrap_or (number_of names.now feature.name) 0) features.now) }
 {
     let mut places = Vec::new(alloc);

@@ -22,7 +22,7 @@ use Rattle.wb_ecore.specs.declared.features.Feature.{Feature}
 use Rattle.wb_ecore.specs.declared.features.Kind.{Kind}
 use Rattle.wb_ecore.specs.declared.features.Kind.TheVariants as kinds
 use Rattle.wb_metamodel.proofs.Ranges.{class_in_range}
-use Rattle.wb_ecore.proofs.Positions.{position-Some}
+use Rattle.wb_base.proofs.Positions.{position-Some}
 use Rattle.wb_store.specs.declared.scalars.Scalar.{Scalar}
 use Rattle.wb_store.specs.declared.scalars.Scalar.TheVariants as scalars
 use Rattle.wb_validity.specs.Valid.{has_feature}

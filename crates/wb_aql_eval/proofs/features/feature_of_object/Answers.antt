@@ -19,19 +19,19 @@ returns-in_err-class c =
 pub returns-in-None : goal.returns-in-None
 returns-in-None c =
     no_feature c.args.model.now c.args.name.now c.args.o c.args.reads.now c.in_ok-class.class c.look_at_class.new.reads c.in_ok-class.ensures.class
-    (ap (λ mm. feature_named mm c.in_ok-class.class c.args.name.now) (sym c.metamodel.ensures) ∙ (ap (λ w. feature_named c.metamodel.result.now c.in_ok-class.class w) (sym c.as_slice.ensures.same) ∙ (sym c.feature_named.ensures ∙ c.in-None.is)))
+    (ap (λ mm. feature_named mm c.in_ok-class.class c.args.name.now) (sym c.metamodel.ensures) ∙ (ap (λ w. feature_named c.metamodel.result.now c.in_ok-class.class w) (sym c.as_slice.ensures.same) ∙ (sym c.feature_named.ensures.named ∙ c.in-None.is)))
 
 pub feature-requires : goal.feature-requires
 feature-requires c =
     subst (λ mm. c.in-Some.feature < length mm.features) (sym c.metamodel-in-Some.ensures)
-    (feature_in_range c.args.model.now.metamodel c.in_ok-class.class c.args.name.now c.in-Some.feature (ap (λ mm. feature_named mm c.in_ok-class.class c.args.name.now) (sym c.metamodel.ensures) ∙ (ap (λ w. feature_named c.metamodel.result.now c.in_ok-class.class w) (sym c.as_slice.ensures.same) ∙ (sym c.feature_named.ensures ∙ c.in-Some.is))))
+    (feature_in_range c.args.model.now.metamodel c.in_ok-class.class c.args.name.now c.in-Some.feature (ap (λ mm. feature_named mm c.in_ok-class.class c.args.name.now) (sym c.metamodel.ensures) ∙ (ap (λ w. feature_named c.metamodel.result.now c.in_ok-class.class w) (sym c.as_slice.ensures.same) ∙ (sym c.feature_named.ensures.named ∙ c.in-Some.is))))
 
 pub returns-in_ok-shown-in-Some : goal.returns-in_ok-shown-in-Some
 returns-in_ok-shown-in-Some c =
     let at : feature_at c.args.model.now.metamodel c.in-Some.feature ≡ Some c.feature.result.now = ap (λ mm. feature_at mm c.in-Some.feature) (sym c.metamodel-in-Some.ensures) ∙ c.feature.ensures in
     let many = ap (λ found. option_map_or (λ (feature : Feature). feature.many) found false) at in
     a_feature c.args.model.now c.args.name.now c.args.o c.args.reads.now c.in_ok-class.class c.look_at_class.new.reads c.in_ok-class.ensures.class c.in-Some.feature
-    (ap (λ mm. feature_named mm c.in_ok-class.class c.args.name.now) (sym c.metamodel.ensures) ∙ (ap (λ w. feature_named c.metamodel.result.now c.in_ok-class.class w) (sym c.as_slice.ensures.same) ∙ (sym c.feature_named.ensures ∙ c.in-Some.is)))
+    (ap (λ mm. feature_named mm c.in_ok-class.class c.args.name.now) (sym c.metamodel.ensures) ∙ (ap (λ w. feature_named c.metamodel.result.now c.in_ok-class.class w) (sym c.as_slice.ensures.same) ∙ (sym c.feature_named.ensures.named ∙ c.in-Some.is)))
     ∙ (ap (λ b. record { gave = Ok (shown b (slot c.args.model.now c.args.o c.in-Some.feature)); reads = with_read c.look_at_class.new.reads (Slot c.args.o c.in-Some.feature) }) many
     ∙ (ap (λ xs. record { gave = Ok (shown c.feature.result.now.many xs); reads = with_read c.look_at_class.new.reads (Slot c.args.o c.in-Some.feature) }) (sym c.get.ensures)
     ∙ (ap (λ v. record { gave = Ok v; reads = with_read c.look_at_class.new.reads (Slot c.args.o c.in-Some.feature) }) (sym c.in_ok-shown-in-Some.ensures) ∙ ap (λ rs. record { gave = Ok c.in_ok-shown-in-Some.field-0; reads = rs }) (sym c.in_ok-note-in-Some.ensures.ok))))

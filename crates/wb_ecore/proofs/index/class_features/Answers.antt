@@ -3,9 +3,9 @@ use Rattle.std.specs.List.{AllZip, position}
 use Rattle.wb_ecore.specs.declared.document.FeaturePart.{FeaturePart}
 use Rattle.wb_ecore.specs.Naming.{same_name}
 use Rattle.wb_ecore.specs.Resolving.{numbered}
-use Rattle.wb_ecore.specs.Index.{HasOwn}
+use Rattle.wb_ecore.specs.invariants.Index.{HasOwn}
 use Rattle.wb_ecore.proofs.Numbered.{numbered-more}
-use Rattle.wb_ecore.proofs.Zips.{zip-push}
+use Rattle.wb_base.proofs.Zips.{zip-push}
 use Rattle.wb_ecore.proofs.index.class_features.Goals as goal
 
 pub loop-class-preserved : goal.loop-class-preserved

@@ -1,7 +1,7 @@
 use Rattle.std.proofs.Common.{◌≡◌, ◌-◌, length, map, take}
 use Rattle.std.specs.List.{find, range_with_len}
 use Rattle.wb_ecore.specs.Naming.{numbers}
-use Rattle.wb_ecore.specs.Names.{Holds}
+use Rattle.wb_ecore.specs.invariants.NumberedNames.{Holds}
 use Rattle.wb_ecore.specs.Repeats.{repeats}
 use Rattle.wb_ecore.proofs.repeats.first_repeated.Given as goal
 

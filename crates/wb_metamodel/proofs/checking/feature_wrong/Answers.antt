@@ -20,7 +20,7 @@ wrong-at mm f feature at =
 
 pub returns : goal.returns
 returns c =
-    let mm = c.args.content.now in
+    let mm = c.args.elements.now in
     let f = c.args.number in
     let slice = c.as_slice-features.result.now in
     let n = ap length c.as_slice-features.ensures in

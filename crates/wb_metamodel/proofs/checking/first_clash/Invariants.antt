@@ -6,4 +6,4 @@ use Rattle.wb_metamodel.proofs.checking.first_clash.Given as goal
 
 abbrev pub invariant-loop-class : goal.invariant-loop-class
 invariant-loop-class l =
-    find (has_clash l.content) (numbers (length l.content.classes)) ≡ find (has_clash l.content) (range_with_len l.class (length l.content.classes - l.class))
+    find (has_clash l.elements) (numbers (length l.elements.classes)) ≡ find (has_clash l.elements) (range_with_len l.class (length l.elements.classes - l.class))

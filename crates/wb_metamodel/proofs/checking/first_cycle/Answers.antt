@@ -6,7 +6,7 @@ use Rattle.wb_metamodel.proofs.checking.first_cycle.Goals as goal
 
 pub bounds-as_slice-class : goal.bounds-as_slice-class
 bounds-as_slice-class c =
-    let mm = c.args.content.now in
+    let mm = c.args.elements.now in
     let k = c.loop-class.class in
     let row = c.index-below-class.result in
     let n = ap length c.requires ∙ length-below_table mm in
@@ -16,7 +16,7 @@ bounds-as_slice-class c =
 
 pub returns-then-as_slice-class : goal.returns-then-as_slice-class
 returns-then-as_slice-class c =
-    let mm = c.args.content.now in
+    let mm = c.args.elements.now in
     let k = c.loop-class.class in
     let row = c.index-below-class.result in
     let n = ap length c.requires ∙ length-below_table mm in
@@ -26,7 +26,7 @@ returns-then-as_slice-class c =
 
 pub loop-class-preserved : goal.loop-class-preserved
 loop-class-preserved c =
-    let mm = c.args.content.now in
+    let mm = c.args.elements.now in
     let k = c.loop-class.class in
     let row = c.index-below-class.result in
     let n = ap length c.requires ∙ length-below_table mm in
@@ -36,6 +36,6 @@ loop-class-preserved c =
 
 pub returns : goal.returns
 returns c =
-    let mm = c.args.content.now in
+    let mm = c.args.elements.now in
     let n = ap length c.requires ∙ length-below_table mm in
     sym (c.loop-class.invariant ∙ find-done (λ j. is_below mm j j) (length mm.classes) c.loop-class.class (omega arith))

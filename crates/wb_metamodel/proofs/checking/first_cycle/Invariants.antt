@@ -5,4 +5,4 @@ use Rattle.wb_metamodel.proofs.checking.first_cycle.Given as goal
 
 abbrev pub invariant-loop-class : goal.invariant-loop-class
 invariant-loop-class l =
-    find (λ c. is_below l.content c c) (numbers (length l.content.classes)) ≡ find (λ c. is_below l.content c c) (range_with_len l.class (length l.content.classes - l.class))
+    find (λ c. is_below l.elements c c) (numbers (length l.elements.classes)) ≡ find (λ c. is_below l.elements c c) (range_with_len l.class (length l.elements.classes - l.class))

@@ -9,7 +9,7 @@ use Rattle.wb_metamodel.proofs.checking.first_mismatch.Goals as goal
 
 pub loop-number-preserved : goal.loop-number-preserved
 loop-number-preserved c =
-    let mm = c.args.content.now in
+    let mm = c.args.elements.now in
     let i = c.loop-number.number in
     let slice = c.as_slice-feature-items.result.now in
     let n = ap length c.as_slice-feature-items.ensures in

@@ -6,4 +6,4 @@ use Rattle.wb_metamodel.proofs.checking.first_mismatch.Given as goal
 
 abbrev pub invariant-loop-number : goal.invariant-loop-number
 invariant-loop-number l =
-    find (has_mismatch l.content) (numbers (length l.content.features)) ≡ find (has_mismatch l.content) (range_with_len l.number (length l.content.features - l.number))
+    find (has_mismatch l.elements) (numbers (length l.elements.features)) ≡ find (has_mismatch l.elements) (range_with_len l.number (length l.elements.features - l.number))

@@ -2,8 +2,8 @@ use Rattle.std.proofs.Common.{◌≡◌, ◌<◌, length, get_or, subst, sym, ap
 use Rattle.std.specs.Prelude.{All}
 use Rattle.std.specs.List.{list_any}
 use Rattle.wb_metamodel.specs.Metamodel.{features_of}
-use Rattle.wb_metamodel.specs.Tables.{is_other, HasRow}
-use Rattle.wb_ecore.proofs.Zips.{zip-length}
+use Rattle.wb_metamodel.specs.invariants.Tables.{is_other, HasRow}
+use Rattle.wb_base.proofs.Zips.{zip-length}
 use Rattle.wb_metamodel.proofs.TableLemmas.{length-features_table, features_read}
 use Rattle.wb_metamodel.proofs.ByName.{clash-same, length-places, places-known, features-known, reads-names, row-length}
 use Rattle.wb_metamodel.proofs.checking.has_clash.Goals as goal
@@ -12,7 +12,7 @@ pub bounds-as_slice-class : goal.bounds-as_slice-class
 bounds-as_slice-class c =
     let t = c.requires.tables in
     let n = zip-length (HasRow c.args.tables.now.feature_places) c.args.tables.now.features_by_name c.args.tables.now.class_features t.rows in
-    let m = ap length t.class_features ∙ length-features_table c.args.content.now in
+    let m = ap length t.class_features ∙ length-features_table c.args.elements.now in
     let s = ap length c.as_slice.ensures in
     omega arith
 
@@ -20,25 +20,25 @@ pub offset_bounds-as_slice-class : goal.offset_bounds-as_slice-class
 offset_bounds-as_slice-class c =
     let t = c.requires.tables in
     let n = zip-length (HasRow c.args.tables.now.feature_places) c.args.tables.now.features_by_name c.args.tables.now.class_features t.rows in
-    let m = ap length t.class_features ∙ length-features_table c.args.content.now in
+    let m = ap length t.class_features ∙ length-features_table c.args.elements.now in
     let s = ap length c.as_slice.ensures in
     omega arith
 
 pub bounds-as_slice-class-2 : goal.bounds-as_slice-class-2
 bounds-as_slice-class-2 c =
-    let m = ap length c.requires.tables.class_features ∙ length-features_table c.args.content.now in
+    let m = ap length c.requires.tables.class_features ∙ length-features_table c.args.elements.now in
     let s = ap length c.as_slice-3.ensures in
     omega arith
 
 pub offset_bounds-as_slice-class-2 : goal.offset_bounds-as_slice-class-2
 offset_bounds-as_slice-class-2 c =
-    let m = ap length c.requires.tables.class_features ∙ length-features_table c.args.content.now in
+    let m = ap length c.requires.tables.class_features ∙ length-features_table c.args.elements.now in
     let s = ap length c.as_slice-3.ensures in
     omega arith
 
 pub has_other-requires-clause-features : goal.has_other-requires-clause-features
 has_other-requires-clause-features c =
-    let mm = c.args.content.now in
+    let mm = c.args.elements.now in
     let t = c.requires.tables in
     let k = c.args.class in
     let row = c.index-as_slice-class-2.result in
@@ -49,7 +49,7 @@ has_other-requires-clause-features c =
 
 pub has_other-requires-clause-places : goal.has_other-requires-clause-places
 has_other-requires-clause-places c =
-    let mm = c.args.content.now in
+    let mm = c.args.elements.now in
     let t = c.requires.tables in
     let k = c.args.class in
     let row = c.index-as_slice-class.result in
@@ -61,7 +61,7 @@ has_other-requires-clause-places c =
 
 pub returns : goal.returns
 returns c =
-    let mm = c.args.content.now in
+    let mm = c.args.elements.now in
     let t = c.requires.tables in
     let k = c.args.class in
     let places = c.args.tables.now.feature_places in

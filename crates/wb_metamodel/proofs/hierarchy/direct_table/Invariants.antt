@@ -1,6 +1,6 @@
 use Rattle.std.proofs.Common.{◌≡◌, length, map, take}
 use Rattle.wb_ecore.specs.declared.classes.Class.{Class}
-use Rattle.wb_metamodel.specs.Tables.{direct_row}
+use Rattle.wb_metamodel.specs.invariants.Tables.{direct_row}
 use Rattle.wb_metamodel.proofs.hierarchy.direct_table.Given as goal
 
 abbrev pub invariant-loop-class : goal.invariant-loop-class

@@ -1,6 +1,6 @@
 use Rattle.std.proofs.Common.{◌<◌, false, length, sym, ◌∙◌, ⊎_elim, arith}
 use Rattle.std.proofs.lemmas.Bool.{cases_lt}
-use Rattle.wb_metamodel.specs.Tables.{or_row}
+use Rattle.wb_metamodel.specs.invariants.Tables.{or_row}
 use Rattle.wb_metamodel.proofs.Cells.{same_cells, length-or_row, or_row-within, or_row-past}
 use Rattle.wb_metamodel.proofs.hierarchy.or_row.Goals as goal
 

@@ -1,5 +1,5 @@
 use Rattle.std.proofs.Common.{◌≡◌, map}
-use Rattle.wb_metamodel.specs.Tables.{widened}
+use Rattle.wb_metamodel.specs.invariants.Tables.{widened}
 use Rattle.wb_metamodel.proofs.hierarchy.through.Given as goal
 
 abbrev pub invariant-loop-row : goal.invariant-loop-row

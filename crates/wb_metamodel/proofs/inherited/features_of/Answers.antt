@@ -5,13 +5,13 @@ use Rattle.std.specs.Result.{IfOk}
 use Rattle.std.proofs.lemmas.Option.{slice_get-get_or}
 use Rattle.wb_ecore.specs.declared.classes.Class.{Class}
 use Rattle.wb_metamodel.specs.Metamodel.{own_features, supertypes_of, first_places}
-use Rattle.wb_metamodel.specs.Inherited.{all_features}
+use Rattle.wb_metamodel.specs.invariants.Inherited.{all_features}
 use Rattle.wb_metamodel.proofs.Inherit.{member-at}
 use Rattle.wb_metamodel.proofs.inherited.features_of.Goals as goal
 
 pub first_places-requires : goal.first_places-requires
 first_places-requires c =
-    let mm = c.args.content.now in
+    let mm = c.args.elements.now in
     let table = c.args.table.now in
     let k = c.args.class in
     let g = c.as_slice.ensures in
@@ -28,7 +28,7 @@ first_places-requires c =
 
 pub returns : goal.returns
 returns c =
-    let mm = c.args.content.now in
+    let mm = c.args.elements.now in
     let table = c.args.table.now in
     let k = c.args.class in
     let g = c.as_slice.ensures in

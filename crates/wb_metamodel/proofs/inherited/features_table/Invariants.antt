@@ -1,5 +1,5 @@
-use Rattle.wb_metamodel.specs.Inherited.{FilledTo}
+use Rattle.wb_metamodel.specs.invariants.Inherited.{FilledTo}
 use Rattle.wb_metamodel.proofs.inherited.features_table.Given as goal
 
 abbrev pub invariant-loop-rank : goal.invariant-loop-rank
-invariant-loop-rank l = FilledTo l.content l.table.items l.rank
+invariant-loop-rank l = FilledTo l.elements l.table.items l.rank

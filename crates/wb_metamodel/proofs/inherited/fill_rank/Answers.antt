@@ -2,25 +2,25 @@ use Rattle.std.proofs.Common.{◌≡◌, ◌<◌, ◌+◌, ℕ, [], length, get_
 use Rattle.std.specs.List.{list_any}
 use Rattle.std.proofs.lemmas.List.FromFn.{length-map-range_with_len, get_or-map-range_with_len}
 use Rattle.wb_metamodel.specs.Metamodel.{features_of, first_places}
-use Rattle.wb_metamodel.specs.Tables.{rank_of}
-use Rattle.wb_metamodel.specs.Inherited.{FilledTo, all_features}
+use Rattle.wb_metamodel.specs.invariants.Tables.{rank_of}
+use Rattle.wb_metamodel.specs.invariants.Inherited.{FilledTo, all_features}
 use Rattle.wb_metamodel.proofs.Inherit.{all-features-known, class-filled, fill-step, fill-skip, fill-end}
 use Rattle.wb_metamodel.proofs.inherited.fill_rank.Goals as goal
 use Rattle.wb_metamodel.proofs.inherited.fill_rank.Goals.{then-ranks-class+in_ok-features, else-ranks-class}
 
 pub overflow_cast-class : goal.overflow_cast-class
 overflow_cast-class c =
-    let n = ap length c.requires.ranks ∙ length-map-range_with_len (rank_of c.args.content.now) 0 (length c.args.content.now.classes) in
+    let n = ap length c.requires.ranks ∙ length-map-range_with_len (rank_of c.args.elements.now) 0 (length c.args.elements.now.classes) in
     omega (arith, c.requires.hierarchy.few_classes)
 
 pub features_of-requires-clause-class : goal.features_of-requires-clause-class
 features_of-requires-clause-class c =
-    let n = ap length c.requires.ranks ∙ length-map-range_with_len (rank_of c.args.content.now) 0 (length c.args.content.now.classes) in
+    let n = ap length c.requires.ranks ∙ length-map-range_with_len (rank_of c.args.elements.now) 0 (length c.args.elements.now.classes) in
     omega arith
 
 pub features_of-requires-clause-known : goal.features_of-requires-clause-known
 features_of-requires-clause-known c =
-    let mm = c.args.content.now in
+    let mm = c.args.elements.now in
     let k = c.loop-class.class in
     let n = ap length c.requires.ranks ∙ length-map-range_with_len (rank_of mm) 0 (length mm.classes) in
     let rank : rank_of mm k ≡ c.args.rank = sym (ap (λ rs. get_or rs k 0) c.requires.ranks ∙ get_or-map-range_with_len (rank_of mm) 0 (length mm.classes) k k 0 (omega arith) (omega arith)) ∙ c.if-ranks-class.true in
@@ -29,12 +29,12 @@ features_of-requires-clause-known c =
 
 pub index_mut-requires : goal.index_mut-requires
 index_mut-requires c =
-    let n = ap length c.requires.ranks ∙ length-map-range_with_len (rank_of c.args.content.now) 0 (length c.args.content.now.classes) in
+    let n = ap length c.requires.ranks ∙ length-map-range_with_len (rank_of c.args.elements.now) 0 (length c.args.elements.now.classes) in
     omega (arith, c.loop-class.invariant.0.lengths, c.loop-class.table.ok.0)
 
 pub loop-class-preserved : goal.loop-class-preserved
 loop-class-preserved c =
-    let mm = c.args.content.now in
+    let mm = c.args.elements.now in
     let k = c.loop-class.class in
     let r = c.args.rank in
     let table = c.loop-class.table.items in
@@ -55,6 +55,6 @@ loop-class-preserved c =
 
 pub returns : goal.returns
 returns c =
-    let mm = c.args.content.now in
+    let mm = c.args.elements.now in
     let n = ap length c.requires.ranks ∙ length-map-range_with_len (rank_of mm) 0 (length mm.classes) in
     fill-end mm c.loop-class.table.items c.args.rank c.loop-class.class c.loop-class.invariant.0 c.loop-class.invariant.1 (omega arith)

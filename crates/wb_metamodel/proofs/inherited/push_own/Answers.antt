@@ -10,7 +10,7 @@ use Rattle.wb_metamodel.proofs.inherited.push_own.Goals.{then-eq+in_ok-push, els
 
 pub loop-number-preserved : goal.loop-number-preserved
 loop-number-preserved c =
-    let mm = c.args.content.now in
+    let mm = c.args.elements.now in
     let k = c.args.class in
     let i = c.loop-number.number in
     let item = c.feature-item.result in

@@ -1,7 +1,7 @@
 use Rattle.std.proofs.Common.{◌+◌, sym, subst, take, arith}
 use Rattle.wb_ecore.specs.declared.classes.Enumeration.{Enumeration}
-use Rattle.wb_metamodel.specs.Tables.{PlacesOf, LiteralPlaces}
-use Rattle.wb_ecore.proofs.Zips.{zip_more}
+use Rattle.wb_metamodel.specs.invariants.Tables.{PlacesOf, LiteralPlaces}
+use Rattle.wb_base.proofs.Zips.{zip_more}
 use Rattle.wb_metamodel.proofs.tables.literal_names.Goals as goal
 
 pub loop-enumeration-preserved : goal.loop-enumeration-preserved

@@ -1,5 +1,5 @@
 use Rattle.std.proofs.Common.{take}
-use Rattle.wb_metamodel.specs.Tables.{LiteralPlaces}
+use Rattle.wb_metamodel.specs.invariants.Tables.{LiteralPlaces}
 use Rattle.wb_metamodel.proofs.tables.literal_names.Given as goal
 
 abbrev pub invariant-loop-enumeration : goal.invariant-loop-enumeration

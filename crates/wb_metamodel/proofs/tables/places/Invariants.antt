@@ -1,7 +1,7 @@
 use Rattle.std.proofs.Common.{◌≡◌, map, take}
 use Rattle.std.specs.Prelude.{unwrap_or}
 use Rattle.wb_ecore.specs.declared.features.Feature.{Feature}
-use Rattle.wb_ecore.specs.Names.{number_of}
+use Rattle.wb_ecore.specs.invariants.NumberedNames.{number_of}
 use Rattle.wb_metamodel.proofs.tables.places.Given as goal
 
 abbrev pub invariant-loop-feature : goal.invariant-loop-feature

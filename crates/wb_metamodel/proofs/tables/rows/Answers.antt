@@ -1,7 +1,7 @@
 use Rattle.std.proofs.Common.{◌+◌, take, sym, subst, arith}
 use Rattle.std.specs.List.{AllZip}
-use Rattle.wb_metamodel.specs.Tables.{HasRow}
-use Rattle.wb_ecore.proofs.Zips.{zip_more}
+use Rattle.wb_metamodel.specs.invariants.Tables.{HasRow}
+use Rattle.wb_base.proofs.Zips.{zip_more}
 use Rattle.wb_metamodel.proofs.tables.rows.Goals as goal
 
 pub loop-own-preserved : goal.loop-own-preserved

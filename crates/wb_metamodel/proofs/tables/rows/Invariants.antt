@@ -1,6 +1,6 @@
 use Rattle.std.proofs.Common.{take}
 use Rattle.std.specs.List.{AllZip}
-use Rattle.wb_metamodel.specs.Tables.{HasRow}
+use Rattle.wb_metamodel.specs.invariants.Tables.{HasRow}
 use Rattle.wb_metamodel.proofs.tables.rows.Given as goal
 
 abbrev pub invariant-loop-own : goal.invariant-loop-own

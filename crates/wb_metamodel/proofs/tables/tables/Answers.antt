@@ -5,15 +5,15 @@ use Rattle.wb_ecore.specs.declared.classes.Class.{Class}
 use Rattle.wb_ecore.specs.declared.classes.Enumeration.{Enumeration}
 use Rattle.wb_ecore.specs.declared.features.Feature.{Feature}
 use Rattle.wb_metamodel.specs.Metamodel.{same_name}
-use Rattle.wb_ecore.specs.Names.{number_of}
-use Rattle.wb_metamodel.specs.Tables.{LiteralPlaces, HasRow, feature_place, features_table}
-use Rattle.wb_metamodel.proofs.Warshall.{map-same}
+use Rattle.wb_ecore.specs.invariants.NumberedNames.{number_of}
+use Rattle.wb_metamodel.specs.invariants.Tables.{LiteralPlaces, HasRow, feature_place, features_table}
+use Rattle.wb_base.proofs.ListLemmas.{map-same}
 use Rattle.wb_metamodel.proofs.ByName.{places_of, length-places, places-known, features-known, row-features, by-name}
 use Rattle.wb_metamodel.proofs.tables.tables.Goals as goal
 
 pub rows-requires-clause-places : goal.rows-requires-clause-places
 rows-requires-clause-places c =
-    let mm = c.args.content.now in
+    let mm = c.args.elements.now in
     let fp = c.in_ok-feature_places.feature_places in
     let names = λ (name : List ℕ). c.in_ok-feature_names.ensures name ∙ ap (position (λ (one : Feature). same_name one.name name)) c.as_slice-2.ensures in
     let are : fp ≡ places_of mm =
@@ -23,7 +23,7 @@ rows-requires-clause-places c =
 
 pub rows-requires-clause-features : goal.rows-requires-clause-features
 rows-requires-clause-features c = λ k own at.
-    let mm = c.args.content.now in
+    let mm = c.args.elements.now in
     let fp = c.in_ok-feature_places.feature_places in
     let names = λ (name : List ℕ). c.in_ok-feature_names.ensures name ∙ ap (position (λ (one : Feature). same_name one.name name)) c.as_slice-2.ensures in
     let are : fp ≡ places_of mm =
@@ -35,7 +35,7 @@ rows-requires-clause-features c = λ k own at.
 
 pub returns : goal.returns
 returns c =
-    let mm = c.args.content.now in
+    let mm = c.args.elements.now in
     let fp = c.in_ok-feature_places.feature_places in
     let fbn = c.in_ok-features_by_name.features_by_name in
     let names = λ (name : List ℕ). c.in_ok-feature_names.ensures name ∙ ap (position (λ (one : Feature). same_name one.name name)) c.as_slice-2.ensures in

@@ -1,5 +1,5 @@
 use Rattle.std.proofs.Common.{sym, ap, ◌∙◌}
-use Rattle.wb_ecore.specs.Names.{number_of}
+use Rattle.wb_ecore.specs.invariants.NumberedNames.{number_of}
 use Rattle.wb_ecore.proofs.Numbered.{class-number-known}
 use Rattle.wb_ecore.proofs.index.Index.class.Goals as goal
 

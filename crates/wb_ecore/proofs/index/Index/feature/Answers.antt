@@ -1,6 +1,6 @@
 use Rattle.std.proofs.Common.{◌+◌, sym, ap, ◌∙◌, arith}
 use Rattle.std.specs.Option.{option_map}
-use Rattle.wb_ecore.specs.Names.{number_of}
+use Rattle.wb_ecore.specs.invariants.NumberedNames.{number_of}
 use Rattle.wb_ecore.specs.Resolving.{own_feature}
 use Rattle.wb_ecore.proofs.Numbered.{own-within, own-at, own-found, own-fits}
 use Rattle.wb_ecore.proofs.index.Index.feature.Goals as goal

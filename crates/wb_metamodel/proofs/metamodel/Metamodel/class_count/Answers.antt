@@ -5,5 +5,5 @@ use Rattle.wb_metamodel.proofs.metamodel.Metamodel.class_count.Goals as goal
 pub overflow_cast-result : goal.overflow_cast-result
 unfolding IsWellFormed
 overflow_cast-result c =
-    let few : length c.self.inside.content.classes ≤ _ = c.self.invariant.well_formed.few_classes in
+    let within_limits : length c.self.inside.elements.classes ≤ _ = c.self.invariant.well_formed.few_classes in
     omega arith

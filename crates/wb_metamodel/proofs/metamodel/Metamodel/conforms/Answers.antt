@@ -7,16 +7,16 @@ use Rattle.wb_metamodel.proofs.metamodel.Metamodel.conforms.Goals as goal
 
 pub bounds-as_slice-a-inside : goal.bounds-as_slice-a-inside
 bounds-as_slice-a-inside c =
-    let n = ap length (c.as_slice.ensures ∙ c.self.invariant.tables.below) ∙ length-below_table c.self.inside.content in
+    let n = ap length (c.as_slice.ensures ∙ c.self.invariant.tables.below) ∙ length-below_table c.self.inside.elements in
     let v = ap (λ (m : definition.Metamodel). length m.classes) c.self.view_is in
     omega arith
 
 pub bounds-as_slice-b-inside : goal.bounds-as_slice-b-inside
 bounds-as_slice-b-inside c =
     let v = ap (λ (m : definition.Metamodel). length m.classes) c.self.view_is in
-    let a_in : c.a.inside.0 < length c.self.inside.content.classes = omega arith in
+    let a_in : c.a.inside.0 < length c.self.inside.elements.classes = omega arith in
     let row = subst (λ t. c.index-as_slice-a.result ≡ get_or t c.a.inside.0 c.index-as_slice-a.result) (c.as_slice.ensures ∙ c.self.invariant.tables.below) c.index-as_slice-a.is in
-    let n = ap length c.as_slice-else-a-b.ensures ∙ length-below_row c.self.inside.content c.a.inside.0 c.index-as_slice-a.result a_in row in
+    let n = ap length c.as_slice-else-a-b.ensures ∙ length-below_row c.self.inside.elements c.a.inside.0 c.index-as_slice-a.result a_in row in
     omega arith
 
 pub returns-then-a-b-clause-value : goal.returns-then-a-b-clause-value
@@ -32,7 +32,7 @@ returns-then-a-b-clause-path c =
 -- what is read is the test
 pub returns-else-a-b-clause-value : goal.returns-else-a-b-clause-value
 returns-else-a-b-clause-value c =
-    let mm = c.self.inside.content in
+    let mm = c.self.inside.elements in
     let v = ap (λ (m : definition.Metamodel). length m.classes) c.self.view_is in
     let a_in : c.a.inside.0 < length mm.classes = omega arith in
     let b_in : c.b.inside.0 < length mm.classes = omega arith in

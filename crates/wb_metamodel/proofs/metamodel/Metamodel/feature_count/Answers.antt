@@ -5,5 +5,5 @@ use Rattle.wb_metamodel.proofs.metamodel.Metamodel.feature_count.Goals as goal
 pub overflow_cast-result : goal.overflow_cast-result
 unfolding IsWellFormed
 overflow_cast-result c =
-    let few : length c.self.inside.content.features ≤ _ = c.self.invariant.well_formed.few_features in
+    let within_limits : length c.self.inside.elements.features ≤ _ = c.self.invariant.well_formed.few_features in
     omega arith

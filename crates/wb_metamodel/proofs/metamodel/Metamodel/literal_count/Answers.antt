@@ -8,8 +8,8 @@ use Rattle.wb_metamodel.specs.Metamodel as definition
 use Rattle.wb_metamodel.specs.WellFormed.{IsWellFormed}
 use Rattle.wb_metamodel.proofs.metamodel.Metamodel.literal_count.Goals as goal
 
-few : (xs ys : List Enumeration) (i : ℕ) (x : Enumeration) → ys ≡ xs → i < length ys → sum_by (λ (e : Enumeration). length e.literals) xs ≤ 10000 → length (get_or ys i x).literals ≤ 10000
-few xs ys i x s h l =
+within_limits : (xs ys : List Enumeration) (i : ℕ) (x : Enumeration) → ys ≡ xs → i < length ys → sum_by (λ (e : Enumeration). length e.literals) xs ≤ 10000 → length (get_or ys i x).literals ≤ 10000
+within_limits xs ys i x s h l =
     let b = get_or-le-sum_by (λ (e : Enumeration). length e.literals) ys i x h in
     let t = ap (sum_by (λ (e : Enumeration). length e.literals)) s in
     omega arith
@@ -19,7 +19,7 @@ unfolding IsWellFormed
 overflow_cast-result c =
     let v = ap (λ (m : definition.Metamodel). length m.enumerations) c.self.view_is in
     let s = ap length c.as_slice.ensures in
-    let within = few c.self.inside.content.enumerations c.as_slice.result.now c.e.inside.0 c.index-as_slice-e.result c.as_slice.ensures (omega arith) c.self.invariant.well_formed.few_literals in
+    let within = within_limits c.self.inside.elements.enumerations c.as_slice.result.now c.e.inside.0 c.index-as_slice-e.result c.as_slice.ensures (omega arith) c.self.invariant.well_formed.few_literals in
     omega arith
 
 pub returns : goal.returns
