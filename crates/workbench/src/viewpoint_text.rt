@@ -7,8 +7,8 @@ ghost use Rattle.workbench.specs.ViewpointText.{reserved_words, is_plain_name, a
 
 use std::alloc::Global;
 use std::marker::Model;
-use wb_base::{List, Text};
-use wb_json::{Form, Name, Value, Wrong, chosen, is_name, listed, needed, optional};
+use wb_base::{List, Text, is_name};
+use wb_json::{Form, Name, Value, Wrong, chosen, listed, needed, optional};
 
 /// `feature:` and the name of a feature, which stands for that feature of the object at hand.
 #[derive(Debug, Drop)]
