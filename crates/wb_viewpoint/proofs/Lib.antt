@@ -1,1 +1,4 @@
+pub mod Depths
+pub mod Steps
 pub mod Trees
+pub mod Turns

@@ -1,6 +1,7 @@
 //! Viewpoints: what a viewpoint's text says, and reading it.
 #![tactic(auto)]
 
+mod actions;
 mod content;
 mod edges;
 mod expression_texts;
@@ -10,6 +11,8 @@ mod mapping_kinds;
 mod mappings;
 mod nodes;
 mod objects;
+mod operation_kinds;
+mod operation_reader;
 mod operations;
 mod refusal;
 mod shown;
