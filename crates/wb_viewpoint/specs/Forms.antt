@@ -15,8 +15,10 @@ use Rattle.wb_viewpoint.specs.declared.mapping_kinds.MappingKind.TheVariants as 
 use Rattle.wb_viewpoint.specs.declared.nodes.NodeKind.{NodeKind}
 use Rattle.wb_viewpoint.specs.declared.nodes.NodeKind.TheVariants as node
 use Rattle.wb_viewpoint.specs.declared.objects.Objects.{Objects}
-use Rattle.wb_viewpoint.specs.declared.shown.Shown.{Shown}
-use Rattle.wb_viewpoint.specs.declared.shown.Nested.{Nested}
+use Rattle.wb_viewpoint.specs.declared.groups.Shown.{Shown}
+use Rattle.wb_viewpoint.specs.declared.groups.Nested.{Nested}
+use Rattle.wb_viewpoint.specs.declared.groups.Named.{Named}
+use Rattle.wb_viewpoint.specs.declared.groups.Finders.{Finders}
 use Rattle.wb_viewpoint.specs.declared.styles.ConditionalStyle.{ConditionalStyle}
 use Rattle.wb_viewpoint.specs.declared.styles.Looks.{Looks}
 use Rattle.wb_viewpoint.specs.declared.styles.Style.{Style}
@@ -59,6 +61,14 @@ objects_of d = do
   candidates ← optional (codes "candidates") expression_of d
   Ok (record { domain = domain; candidates = candidates })
 
+-- a mapping's first members, where it is for objects
+abbrev pub named_of : List (List ℕ) → Data → Result Named Place
+named_of members d = do
+  _ ← listed members d
+  name ← needed (codes "name") name_of d
+  objects ← objects_of d
+  Ok (record { name = name; objects = objects })
+
 -- an edge mapping lists no `synchronised`
 abbrev pub shown_of : Data → Result Shown Place
 shown_of d = do
@@ -78,6 +88,13 @@ ends_of d = do
   sources ← needed (codes "sources") (list_of name_of) d
   targets ← needed (codes "targets") (list_of name_of) d
   Ok (record { sources = sources; targets = targets })
+
+abbrev pub finders_of : Data → Result Finders Place
+finders_of d = do
+  ends ← ends_of d
+  source_finder ← needed (codes "sourceFinder") expression_of d
+  target_finder ← needed (codes "targetFinder") expression_of d
+  Ok (record { ends = ends; source_finder = source_finder; target_finder = target_finder })
 
 -- ---- mappings
 
@@ -108,15 +125,13 @@ object_edge_members =
 
 unfoldable pub node_of : NodeKind → Data → Result Mapping Place
 node_of kind d = do
-  _ ← listed node_members d
-  name ← needed (codes "name") name_of d
-  objects ← objects_of d
+  named ← named_of node_members d
   shown ← shown_of d
   nested ← nested_of d
   looks ← looks_of d
   Ok (record {
-    name = name;
-    form = NodeForm (record { kind = kind; objects = objects; synchronised = shown.synchronised; children = nested.children; borders = nested.borders });
+    name = named.name;
+    form = NodeForm (record { kind = kind; objects = named.objects; synchronised = shown.synchronised; children = nested.children; borders = nested.borders });
     precondition = shown.precondition;
     layer = shown.layer;
     looks = looks;
@@ -140,17 +155,13 @@ edge_of d = do
 
 unfoldable pub object_edge_of : Data → Result Mapping Place
 object_edge_of d = do
-  _ ← listed object_edge_members d
-  name ← needed (codes "name") name_of d
-  objects ← objects_of d
+  named ← named_of object_edge_members d
   shown ← shown_of d
-  ends ← ends_of d
-  source_finder ← needed (codes "sourceFinder") expression_of d
-  target_finder ← needed (codes "targetFinder") expression_of d
+  finders ← finders_of d
   looks ← looks_of d
   Ok (record {
-    name = name;
-    form = EdgeForm (record { object_edge = Some (record { objects = objects; source_finder = source_finder }); ends = ends; target_finder = target_finder });
+    name = named.name;
+    form = EdgeForm (record { object_edge = Some (record { objects = named.objects; source_finder = finders.source_finder }); ends = finders.ends; target_finder = finders.target_finder });
     precondition = shown.precondition;
     layer = shown.layer;
     looks = looks;

@@ -4,5 +4,6 @@ pub mod Forms
 pub mod Limits
 pub mod OperationForms
 pub mod OperationTrees
+pub mod Reading
 pub mod Refusals
 pub mod View

@@ -1,8 +1,9 @@
 -- The forms of tools and their operations. Operations are numbered on the way: each before those inside it.
-use Rattle.std.specs.Prelude.{ℕ, suc, ◌+◌, Bool, true, false, List, [], ◌∷◌, Option, Some, None, Result, Ok, Err, codes}
+use Rattle.std.specs.Prelude.{ℕ, suc, ◌+◌, Bool, true, false, List, [], ◌∷◌, Option, Some, None, option_map, Result, Ok, Err, codes}
 use Rattle.std.specs.Ordering.{match_ordering, nat_cmp}
 use Rattle.std.specs.Cmp.Lexicographic.{slice_cmp}
 use Rattle.serde_json.specs.Data.{Data, null, boolean, number, string, array, object, Items, no_items, item, Members, no_members, member}
+use Rattle.serde_json.specs.Find.{get}
 use Rattle.wb_json.specs.Place.{Place, at_member, at_index}
 use Rattle.wb_json.specs.Form.{◌>>=◌, name_of, word_of, listed, needed, optional}
 use Rattle.wb_viewpoint.specs.Forms.{expression_of}
@@ -12,6 +13,9 @@ use Rattle.wb_viewpoint.specs.declared.operations.Action.TheVariants as a
 use Rattle.wb_viewpoint.specs.declared.operation_kinds.OperationKind.{OperationKind}
 use Rattle.wb_viewpoint.specs.declared.operation_kinds.OperationKind.TheVariants as kind
 use Rattle.wb_viewpoint.specs.declared.operation_reader.Head.{Head}
+use Rattle.wb_viewpoint.specs.declared.tools.Tool.{Tool}
+use Rattle.wb_viewpoint.specs.declared.tools.ToolKind.{ToolKind}
+use Rattle.wb_viewpoint.specs.declared.tools.ToolKind.TheVariants as tool
 
 -- the words for the sorts of operations
 abbrev pub operation_kinds : List (List ℕ × OperationKind)
@@ -144,3 +148,27 @@ abbrev mutual
   pub operations_from : (number place : ℕ) → Items → Result Trees Place
   operations_from n i no_items = Ok no_trees
   operations_from n i (item d ds) = at_index i (operation_of n d) >>= (λ x. operations_from (n + count x) (suc i) ds >>= (λ xs. Ok (trees x xs)))
+
+-- ---- tools
+
+-- the words for the kinds of tools
+abbrev pub tool_kinds : List (List ℕ × ToolKind)
+tool_kinds =
+    (codes "node_creation", tool.NodeCreation) ∷ (codes "edge_creation", tool.EdgeCreation) ∷ (codes "delete", tool.Delete)
+    ∷ (codes "direct_edit", tool.DirectEdit) ∷ (codes "reconnect", tool.Reconnect) ∷ (codes "drop", tool.Drop) ∷ []
+
+abbrev pub tool_kind_of : Data → Result ToolKind Place
+tool_kind_of d = word_of tool_kinds d
+
+-- the operations of a tool: the first has number 1
+unfoldable pub done_of : Data → Result Trees Place
+done_of d = inside true (option_map (operations_of 1) (get (codes "do") d))
+
+unfoldable pub tool_of : Data → Result Tool Place
+tool_of d = do
+  _ ← listed (codes "name" ∷ codes "kind" ∷ codes "precondition" ∷ codes "do" ∷ []) d
+  name ← needed (codes "name") name_of d
+  kind ← needed (codes "kind") tool_kind_of d
+  precondition ← optional (codes "precondition") expression_of d
+  operations ← done_of d
+  Ok (record { name = name; kind = kind; precondition = precondition; operations = operations })

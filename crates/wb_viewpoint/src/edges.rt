@@ -3,9 +3,9 @@ ghost use Rattle.wb_json.specs.Form.{Gives};
 ghost use Rattle.wb_viewpoint.specs.Forms.{ends_of, edge_of, object_edge_of};
 
 use crate::expression_texts::ExpressionText;
+use crate::groups::{read_finders, read_named, read_shown};
 use crate::mappings::{Mapping, MappingForm};
-use crate::objects::{Objects, read_objects};
-use crate::shown::read_shown;
+use crate::objects::Objects;
 use crate::styles::read_looks;
 use std::alloc::Global;
 use wb_base::List;
@@ -39,10 +39,18 @@ const OBJECT_EDGE_MEMBERS: &[&str] = &[
 ];
 
 /// The names of the mappings of an edge's two ends.
-#[derive(Drop)]
 pub struct Ends {
     pub sources: List<Name>,
     pub targets: List<Name>,
+}
+
+impl Drop for Ends {
+    fn drop(self) {
+        let Ends {
+            sources: _sources,
+            targets: _targets,
+        } = self;
+    }
 }
 
 /// What an edge mapping has where its edges stand for objects.
@@ -78,7 +86,7 @@ impl Drop for EdgeMapping {
     }
 }
 
-fn read_ends(alloc: Global, value: &Value) -> Result<Ends, Wrong>
+pub(crate) fn read_ends(alloc: Global, value: &Value) -> Result<Ends, Wrong>
     ensures { Gives result (ends_of (view value.now)) }
 {
     let sources = needed(alloc, value, "sources")?;
@@ -108,21 +116,9 @@ pub(crate) fn read_edge(alloc: Global, value: &Value) -> Result<Mapping, Wrong>
 pub(crate) fn read_object_edge(alloc: Global, value: &Value) -> Result<Mapping, Wrong>
     ensures { Gives result (object_edge_of (view value.now)) }
 {
-    listed(alloc, value, OBJECT_EDGE_MEMBERS)?;
-    let name = needed(alloc, value, "name")?;
-    let objects = read_objects(alloc, value)?;
+    let named = read_named(alloc, value, OBJECT_EDGE_MEMBERS)?;
     let shown = read_shown(alloc, value)?;
-    let ends = read_ends(alloc, value)?;
-    let source_finder = needed(alloc, value, "sourceFinder")?;
-    let target_finder = needed(alloc, value, "targetFinder")?;
+    let finders = read_finders(alloc, value)?;
     let looks = read_looks(alloc, value)?;
-    let form = MappingForm::Edge(EdgeMapping {
-        object_edge: Some(ObjectEdge {
-            objects,
-            source_finder,
-        }),
-        ends,
-        target_finder,
-    });
-    Ok(shown.mapping(name, form, looks))
+    Ok(named.edge(shown, finders, looks))
 }

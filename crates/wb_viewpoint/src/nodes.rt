@@ -2,13 +2,13 @@ ghost use Rattle.serde_json.specs.View.{view};
 ghost use Rattle.wb_json.specs.Form.{Gives};
 ghost use Rattle.wb_viewpoint.specs.Forms.{node_of};
 
-use crate::mappings::{Mapping, MappingForm};
-use crate::objects::{Objects, read_objects};
-use crate::shown::{read_nested, read_shown};
+use crate::groups::{read_named, read_nested, read_shown};
+use crate::mappings::Mapping;
+use crate::objects::Objects;
 use crate::styles::read_looks;
 use std::alloc::Global;
 use wb_base::List;
-use wb_json::{Name, Value, Wrong, listed, needed};
+use wb_json::{Name, Value, Wrong};
 
 const NODE_MEMBERS: &[&str] = &[
     "name",
@@ -61,12 +61,9 @@ impl Drop for NodeMapping {
 pub(crate) fn read_node(alloc: Global, value: &Value, kind: NodeKind) -> Result<Mapping, Wrong>
     ensures { Gives result (node_of kind (view value.now)) }
 {
-    listed(alloc, value, NODE_MEMBERS)?;
-    let name = needed(alloc, value, "name")?;
-    let objects = read_objects(alloc, value)?;
+    let named = read_named(alloc, value, NODE_MEMBERS)?;
     let shown = read_shown(alloc, value)?;
     let nested = read_nested(alloc, value)?;
     let looks = read_looks(alloc, value)?;
-    let mapping = nested.node(kind, objects, shown.synchronised);
-    Ok(shown.mapping(name, MappingForm::Node(mapping), looks))
+    Ok(named.node(kind, shown, nested, looks))
 }

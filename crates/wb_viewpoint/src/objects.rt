@@ -8,10 +8,18 @@ use wb_json::{Name, Value, Wrong, needed, optional};
 
 /// The objects that a mapping shows: those of its domain class among its candidates.
 /// Without an expression all objects of the class are candidates.
-#[derive(Drop)]
 pub struct Objects {
     pub domain: Name,
     pub candidates: Option<ExpressionText>,
+}
+
+impl Drop for Objects {
+    fn drop(self) {
+        let Objects {
+            domain: _domain,
+            candidates: _candidates,
+        } = self;
+    }
 }
 
 pub(crate) fn read_objects(alloc: Global, value: &Value) -> Result<Objects, Wrong>
