@@ -178,23 +178,27 @@ fn feature(
     ensures { Gives result (feature_resolved document.now class part.now part.now.target) }
 {
     match &part.target {
-        Target::Values(name) => Ok(Feature {
-            name: Text::from_str(alloc, part.name.as_str())?,
-            owner: class,
-            kind: kind(alloc, document, index, name)?,
-            many: part.many,
-            containment: false,
-            opposite: None,
-        }),
+        Target::Values(name) => {
+            let kind = kind(alloc, document, index, name)?;
+            Ok(Feature {
+                name: Text::from_str(alloc, part.name.as_str())?,
+                owner: class,
+                kind,
+                many: part.many,
+                containment: false,
+                opposite: None,
+            })
+        }
         Target::Objects(reference) => {
             let target = target(alloc, document, index, reference)?;
+            let opposite = opposite(alloc, document, index, target, &reference.opposite)?;
             Ok(Feature {
                 name: Text::from_str(alloc, part.name.as_str())?,
                 owner: class,
                 kind: Kind::Reference(target),
                 many: part.many,
                 containment: reference.containment,
-                opposite: opposite(alloc, document, index, target, &reference.opposite)?,
+                opposite,
             })
         }
     }
