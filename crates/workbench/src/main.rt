@@ -1,29 +1,10 @@
 //! The workbench: a model, and a diagram of it that a viewpoint declares.
 #![tactic(auto)]
 
-mod answer;
-mod candidates;
-mod drawing;
-mod expressions;
-mod files;
-mod nodes;
-mod opening;
-mod picture;
-mod refusal;
-mod run;
-mod status;
-#[cfg(test)]
-mod tests;
-mod viewpoint;
-mod viewpoint_reader;
-mod viewpoint_text;
-mod words;
-
-use crate::run::workbench;
-use crate::status::Status;
 use std::process::ExitCode;
 use wb_console::command_words;
 use wb_outer::{Bytes, FileShelf, StdoutSink, Steps, SureDoor, SureKeeper};
+use wb_program::{Status, workbench};
 
 /// The label of the count of evaluations.
 struct Evaluations;
@@ -39,9 +20,9 @@ fn main(rt: HostRuntime) -> ExitCode {
 /// Runs over the files and the standard output of this process. No words ask for connections or kept rows yet.
 fn run_on(rt: &HostRuntime, words: &[Bytes]) -> Status {
     let alloc = rt.alloc();
-    let mut shelf = FileShelf::new(rt, alloc);
+    let mut shelf = FileShelf::new(rt);
     let mut door = SureDoor::new(alloc, Vec::new(alloc));
-    let mut keeper = SureKeeper::new(alloc, Vec::new(alloc));
+    let mut keeper = SureKeeper::new(Vec::new(alloc));
     let mut out = StdoutSink::new(rt);
     let mut steps: Steps<Evaluations> = Steps::new();
     workbench(

@@ -1,0 +1,73 @@
+-- Each answer that a course comes to has its cause.
+use Rattle.std.proofs.Common.{◌≡◌, ◌∙◌, sym, ap, subst, refl, ℕ, Bool, true, false, cond, ◌||◌, List, [], ◌∷◌, Option, Some, None}
+use Rattle.std.proofs.Math.Bool.{or_assoc, or-true, or-false}
+use Rattle.wb_base.specs.Names.{same_name}
+use Rattle.wb_base.specs.Options as options
+use Rattle.wb_outer.specs.declared.shelf.Taken.{Taken}
+use Rattle.wb_outer.specs.declared.shelf.Taken.TheVariants.{Bytes, TooBig, Failed}
+use Rattle.wb_outer.specs.Shelf.{has_failed}
+use Rattle.wb_outer.specs.declared.shelf.Call.{Call}
+use Rattle.wb_program.specs.declared.answer.Answer.{Answer}
+use Rattle.wb_program.specs.Answers.{not_built, cannot_read}
+use Rattle.wb_program.specs.Course.{Course, gives, stops, asks, ◌>>=◌, after, answered, play}
+use Rattle.wb_program.specs.Causes.{IsCaused, HasCauses, some_failed}
+use Rattle.wb_program.specs.Taking.{taken, used}
+use Rattle.wb_program.specs.Opening.{or_not_built}
+
+-- what is known of a value that is no answer yet
+abbrev pub AnyValue : {A : Type 0} → Bool → A → Type 0
+AnyValue failed x = Unit {0}
+
+-- an answer that is given has its cause too
+abbrev pub AnswerCaused : Bool → Answer → Type 0
+AnswerCaused failed answer = IsCaused failed answer.status
+
+-- a first step and the next one
+pub causes_then : {A B : Type 0} (Given : Bool → B → Type 0) (failed : Bool) (course : Course A) (f : A → Course B)
+    → HasCauses AnyValue failed course → ((x : A) (b : Bool) → HasCauses Given b (f x)) → HasCauses Given failed (course >>= f)
+unfolding ◌>>=◌
+causes_then Given failed (gives x) f h more = more x failed
+causes_then Given failed (stops answer) f h more = h
+causes_then Given failed (asks name next) f h more = λ taken. causes_then Given (failed || has_failed taken) (next taken) f (h taken) more
+
+pub not_built_caused : (failed : Bool) → IsCaused failed not_built.status
+unfolding not_built
+not_built_caused failed = tt
+
+cannot_read_caused : (name : List ℕ) (failed : Bool) → failed ≡ true → IsCaused failed (cannot_read name).status
+unfolding cannot_read
+cannot_read_caused name failed is = is
+
+-- what a run makes of a file that it asks for
+pub causes_taken : (name : List ℕ) (failed : Bool) → HasCauses AnyValue failed (taken name)
+unfolding taken
+causes_taken name failed = λ given. by given
+  where
+    by : (given : Taken) → HasCauses AnyValue (failed || has_failed given) (used name given)
+    by (Bytes bytes) = tt
+    by TooBig = not_built_caused (failed || false)
+    by Failed = cannot_read_caused name (failed || true) (or-true failed)
+
+pub causes_or_not_built : {A : Type 0} (Given : Bool → A → Type 0) (failed : Bool) (found : Option A) → ((x : A) → found ≡ Some x → Given failed x) → HasCauses Given failed (or_not_built found)
+causes_or_not_built Given failed (Some x) h = h x refl
+causes_or_not_built Given failed None h = not_built_caused failed
+
+ended : (failed : Bool) (given answer : Answer) → IsCaused failed given.status → Some given ≡ Some answer → IsCaused (failed || false) answer.status
+ended failed given answer h is =
+    let same : given ≡ answer = cc in
+    let P : Bool → Type 0 = λ b. IsCaused b answer.status in
+    subst P (sym (or-false failed)) (subst (λ (a : Answer). IsCaused failed a.status) same h)
+
+-- the answer after calls
+pub play_caused : (course : Course Answer) (failed : Bool) (calls : List Call) (answer : Answer) → HasCauses AnswerCaused failed course → play course calls ≡ Some answer → IsCaused (failed || some_failed calls) answer.status
+play_caused (gives given) failed [] answer h is = ended failed given answer h is
+play_caused (stops given) failed [] answer h is = ended failed given answer h is
+play_caused (asks name next) failed [] answer h is = cc
+play_caused (gives given) failed (call ∷ calls) answer h is = cc
+play_caused (stops given) failed (call ∷ calls) answer h is = cc
+play_caused (asks name next) failed (call ∷ calls) answer h is = by (same_name call.name name) (play_caused (next call.answer) (failed || has_failed call.answer) calls answer (h call.answer)) is
+  where
+    by : (b : Bool) → (play (next call.answer) calls ≡ Some answer → IsCaused ((failed || has_failed call.answer) || some_failed calls) answer.status)
+        → options.◌>>=◌ (cond b (after (next call.answer) calls) None) answered ≡ Some answer → IsCaused (failed || (has_failed call.answer || some_failed calls)) answer.status
+    by true rest now = subst (λ b. IsCaused b answer.status) (or_assoc failed (has_failed call.answer) (some_failed calls)) (rest now)
+    by false rest now = cc

@@ -1,0 +1,15 @@
+pub mod AskedNames
+pub mod CausedAnswers
+pub mod Courses
+pub mod Endings
+pub mod FirstPlaces
+pub mod FoundSteps
+pub mod Gifts
+pub mod Lawful
+pub mod OnTop
+pub mod OverFiles
+pub mod OverMetamodels
+pub mod Prefixes
+pub mod ReadModels
+pub mod Searches
+pub mod StepLemmas

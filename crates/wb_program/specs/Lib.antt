@@ -1,0 +1,17 @@
+pub mod Answers
+pub mod Asked
+pub mod Causes
+pub mod Course
+pub mod Files
+pub mod Opening
+pub mod Over
+pub mod Picture
+pub mod Refusal
+pub mod Runs
+pub mod Search
+pub mod Steps
+pub mod Taking
+pub mod Tasks
+pub mod Viewpoint
+pub mod ViewpointText
+pub mod Words

@@ -1,9 +1,0 @@
-use Rattle.workbench.specs.Tasks.{shown}
-use Rattle.workbench.proofs.Endings.{decided_task, decided_none}
-use Rattle.workbench.proofs.run.decide.Goals as goal
-
-pub returns-in-Some : goal.returns-in-Some
-returns-in-Some g c = decided_task c.args.words.now (shown c.in-Some.task) c.perform.result c.conclude.result _ _ _ _ _ c.in-Some.ensures c.perform.ensures.step c.perform.ensures.done c.conclude.ensures
-
-pub returns-in-None : goal.returns-in-None
-returns-in-None g c = decided_none c.args.words.now c.not_built.result _ _ _ c.in-None.ensures c.not_built.ensures
