@@ -3,9 +3,9 @@
 use Rattle.std.specs.Prelude.{ℕ, List, [], ◌∷◌, Option, None, Some, Result, Ok, Err}
 use Rattle.wb_store.specs.declared.scalars.Scalar.{Scalar}
 use Rattle.wb_store.specs.declared.scalars.Cell.{Cell}
-use Rattle.wb_store.specs.declared.scalars.Cell.TheVariants.{Kind, Slot, Holder, Tree, Inverse, Extent, Roots}
-use Rattle.wb_store.specs.Contents.{Contents, kind, slot}
-use Rattle.wb_store.specs.Cells.{holder, tree, inverse, extent}
+use Rattle.wb_store.specs.declared.scalars.Cell.TheVariants.{Kind}
+use Rattle.wb_store.specs.Contents.{Contents}
+use Rattle.wb_store.specs.Cells.{InCell, cell}
 use Rattle.wb_aql_values.specs.declared.faults.Fault.{Fault}
 use Rattle.wb_aql_values.specs.declared.faults.Fault.TheVariants.{DeadObject}
 use Rattle.wb_aql_values.specs.declared.values.Sort.{Sort}
@@ -14,25 +14,12 @@ use Rattle.wb_aql_values.specs.declared.values.Value.{Value}
 use Rattle.wb_aql_values.specs.declared.values.Value.TheVariants.{Null, One, Sequence, OrderedSet}
 use Rattle.wb_aql_values.specs.Values.{put, collection}
 
--- what stands in a cell: a class, values, a container with its feature, objects, or objects with references
+-- what stands in a cell, and in a cell of a model
 abbrev pub Content : Cell → Type 0
-Content (Kind o) = Option ℕ
-Content (Slot o f) = List Scalar
-Content (Holder o) = Option (ℕ × ℕ)
-Content (Tree o) = List ℕ
-Content (Inverse o) = List (ℕ × ℕ)
-Content (Extent c) = List ℕ
-Content Roots = List ℕ
+Content = InCell
 
--- the contents of a model's cells
 abbrev pub contents : Contents → (c : Cell) → Content c
-contents m (Kind o) = kind m o
-contents m (Slot o f) = slot m o f
-contents m (Holder o) = holder m o
-contents m (Tree o) = tree m o
-contents m (Inverse o) = inverse m o
-contents m (Extent c) = extent m c
-contents m Roots = m.roots
+contents = cell
 
 -- it ends with what it gives or with a fault, or looks at a cell and goes on by what stands there
 pub data Reading (A : Type 0) : Type 0 where

@@ -12,17 +12,18 @@ use Rattle.wb_metamodel.specs.WellFormed.{WellFormed}
 use Rattle.wb_store.specs.declared.scalars.Scalar.TheVariants.{Object}
 use Rattle.wb_store.specs.declared.scalars.Place.TheVariants.{Root, In as Inside}
 use Rattle.wb_store.specs.declared.records.Slot.{Slot}
-use Rattle.wb_store.specs.Contents.{Contents, kind, slot, is_containment}
+use Rattle.wb_store.specs.Contents.{Contents, kind, slot, is_containment, contains}
 use Rattle.wb_store.specs.Places.{rises}
 use Rattle.wb_store.specs.Records.{values_in, is_known_slot, feature_of}
 use Rattle.wb_store.specs.Features.{opposite}
 use Rattle.wb_validity.specs.Valid.{IsValid}
-use Rattle.wb_store.specs.Relinking.{Link, link, back, other_end, both_ends, is_at, stands, without_root}
+use Rattle.wb_store.specs.Relinking.{Link, link, back, other_end, both_ends, change, is_at, stands, without_root}
 use Rattle.wb_model.specs.Edits.{with_object, created}
 use Rattle.wb_store.specs.LinkSteps.{with_link, with_root, Grows, back_slots}
 use Rattle.wb_model.proofs.Ends.{opposites}
 use Rattle.wb_validity.proofs.LinkLemmas.{to_false}
 use Rattle.wb_model.proofs.Live.{contained-live, kind-some}
+use Rattle.wb_model.proofs.MoveSteps.{place-free}
 use Rattle.wb_store.proofs.Members.{In, any_In}
 use Rattle.wb_store.proofs.Members.In.{here, there}
 use Rattle.wb_store.proofs.Relinked.{values_at, slot-relink, slot-change, same_contents, next-relink, roots-relink, kinds-relink, metamodel-relink, none-any}
@@ -67,6 +68,9 @@ module _ (m : Contents) (valid : IsValid m) where
       live_of (Some c) h = refl
 
   -- and stands in no containment slot
+  next_uncontained : (q g : ℕ) → contains m q g m.next ≡ false
+  next_uncontained q g = to_false _ (λ c. not_below m.next (live_below m valid m.next (contained-live m (sound m valid) q g m.next c)))
+
   pub next_stands_nowhere : (p f o : ℕ) → o ≡ m.next → is_containment m.metamodel f ≡ true → stands m (link p f (Object o)) ≡ false
   next_stands_nowhere p f o e c =
       to_false (stands m (link p f (Object o)))
@@ -139,7 +143,11 @@ module _ (m : Contents) (valid : IsValid m) where
           | false ↦ λ t. ap (λ vs. slot m q h ++ cond (is_at q h l) (Object m.next ∷ vs) vs) (sym (at_old q h r t))
         ] refl
 
-    with_way : (class q h : ℕ) → slot (created class (Inside p f) m) q h ≡ slot m q h ++ values_at q h (l ∷ (other_end m.metamodel l ++ []))
+    -- where nothing leaves, the way back comes with the link
+    abbrev linked_in : ℕ → Contents
+    linked_in class = change (λ k. false) (l ∷ []) (with_object class m.roots m)
+
+    with_way : (class q h : ℕ) → slot (linked_in class) q h ≡ slot m q h ++ values_at q h (l ∷ (other_end m.metamodel l ++ []))
     with_way class q h =
         slot-change (λ k. false) (l ∷ []) (with_object class m.roots m) q h
         ∙ ap (λ vs. vs ++ values_at q h (l ∷ (other_end m.metamodel l ++ [])))
@@ -148,10 +156,10 @@ module _ (m : Contents) (valid : IsValid m) where
     linked_slot : (q h : ℕ) → slot (with_link l m) q h ≡ slot m q h ++ values_at q h (l ∷ [])
     linked_slot q h = slot-relink (λ k. false) (l ∷ []) m q h ∙ ap (λ vs. vs ++ values_at q h (l ∷ [])) (filter_none (slot m q h))
 
-    grown_here : (u n : Contents) (class : ℕ) (slots : List Slot) → u ≡ with_link l m → slots ≡ back_slots m.metamodel f p → Grows class slots u n → n ≡ created class (Inside p f) m
+    grown_here : (u n : Contents) (class : ℕ) (slots : List Slot) → u ≡ with_link l m → slots ≡ back_slots m.metamodel f p → Grows class slots u n → n ≡ linked_in class
     unfolding ways
     grown_here u n class slots r s g =
-        same_contents n (created class (Inside p f) m)
+        same_contents n (linked_in class)
         (g.metamodel ∙ ap (λ (m : Contents). m.metamodel) r ∙ metamodel-relink _ _ m ∙ sym (metamodel-relink _ _ (with_object class m.roots m)))
         (g.next ∙ ap (λ (m : Contents). suc m.next) r ∙ ap suc (next-relink _ _ m) ∙ sym (next-relink _ _ (with_object class m.roots m)))
         (g.roots ∙ ap (λ (m : Contents). m.roots) r ∙ roots-relink _ _ m ∙ sym (roots-relink _ _ (with_object class m.roots m)))
@@ -164,7 +172,9 @@ module _ (m : Contents) (valid : IsValid m) where
         ∙ sym (with_way class q h))
 
     pub created_in : (u n : Contents) (class o : ℕ) (slots : List Slot) → o ≡ m.next → u ≡ with_link (link p f (Object o)) m → slots ≡ back_slots m.metamodel f p → Grows class slots u n → n ≡ created class (Inside p f) m
-    created_in u n class o slots e r s g = grown_here u n class slots (r ∙ ap (λ o. with_link (link p f (Object o)) m) e) s g
+    created_in u n class o slots e r s g =
+        grown_here u n class slots (r ∙ ap (λ o. with_link (link p f (Object o)) m) e) s g
+        ∙ sym (place-free (with_object class m.roots m) (sound m valid).agree m.next p f next_uncontained)
 
 pub back_rise : (metamodel : Metamodel) (f p : ℕ) → rises feature_of (back_slots metamodel f p) ≡ true
 back_rise metamodel f p = elim (opposite metamodel f) as (λ r. rises feature_of (option_map_or (λ g. record { feature = g; values = Object p ∷ [] } ∷ []) r []) ≡ true) [ None ↦ refl | Some g ↦ refl ]

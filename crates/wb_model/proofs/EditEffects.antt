@@ -18,6 +18,7 @@ use Rattle.wb_validity.specs.Valid.{IsValid, AreContainedOnce}
 use Rattle.wb_store.specs.Relinking.{Link, link, both_ends, change, is_at, same_link, leads_to, stands, gives_way, without_root}
 use Rattle.wb_model.specs.Edits.{link_up, unlink, emptied, moved, created, with_object, refusal_of_link, refusal_of_take, refusal_of_unset, refusal_of_move, refusal_of_create, set, add, take_out, unset, move_to, create}
 use Rattle.wb_model.proofs.Changed.{alone-ends, In-values_at}
+use Rattle.wb_model.proofs.Creating.{next_stands_nowhere}
 use Rattle.wb_model.proofs.Ends.{opposite-apart, containment-one, In-both_ends, ends-this, ends-cases}
 use Rattle.wb_store.proofs.Filtered.{In-cons, filter-none, filter-all, filter-same}
 use Rattle.wb_model.proofs.KeptCreated.{kind-new, may-place, is_placed, kept_create}
@@ -28,7 +29,8 @@ use Rattle.wb_model.proofs.Live.{contained-live}
 use Rattle.wb_store.proofs.Members.{In}
 use Rattle.wb_store.proofs.Members.In.{here}
 use Rattle.wb_model.proofs.MoveSteps.{holder-some, holder-none}
-use Rattle.wb_store.proofs.Relinked.{values_at, is_at-link, is_at-itself, slot-relink, kind-relink, none-any}
+use Rattle.wb_model.proofs.Placing.{may-hold, placed-kind}
+use Rattle.wb_store.proofs.Relinked.{values_at, is_at-link, is_at-itself, slot-relink}
 use Rattle.wb_model.proofs.Sound.{stands-In, absent, contains-from, Sound}
 
 -- ---- the value that comes
@@ -215,8 +217,11 @@ module _ (m n : Contents) (well : WellFormed m.metamodel) (v : IsValid m) where
 
   pub create-slot : (class p f : ℕ) → create m class (Inside p f) ≡ Ok n → slot n p f ≡ slot m p f ++ Object m.next ∷ []
   create-slot class p f h =
-      subst (λ (k : Contents). slot k p f ≡ slot m p f ++ Object m.next ∷ []) (accepted (refusal_of_create m class (Inside p f)) (created class (Inside p f) m) n h).1
-      (comes-last (with_object class m.roots m) well (λ k. false) (link p f (Object m.next)) (λ w i. none-any (both_ends m.metamodel (link p f w))))
+      let a = accepted (refusal_of_create m class (Inside p f)) (created class (Inside p f) m) n h in
+      let c = (may-hold m p f class (may-place m class p f a.0).0.sort).containment in
+      subst (λ (k : Contents). slot k p f ≡ slot m p f ++ Object m.next ∷ []) a.1
+      (comes-last (with_object class m.roots m) well (leads_to m.metamodel m.next) (link p f (Object m.next))
+      (λ w i. none-goes m.next p f c (next_stands_nowhere m v p f m.next refl c) w i))
 
   pub create-holder : (class p f : ℕ) → create m class (Inside p f) ≡ Ok n → holder n m.next ≡ Some (p, f)
   create-holder class p f h =
@@ -233,9 +238,7 @@ module _ (m n : Contents) where
 
   created-kind : (class : ℕ) (place : Place) → kind (created class place m) m.next ≡ Some class
   created-kind class Root = kind-new m class (m.roots ++ m.next ∷ [])
-  created-kind class (Inside p f) =
-      kind-relink (λ k. list_any (λ j. false) (both_ends m.metamodel k)) (flat_map (both_ends m.metamodel) (link p f (Object m.next) ∷ [])) (with_object class m.roots m) m.next
-      ∙ kind-new m class m.roots
+  created-kind class (Inside p f) = placed-kind (with_object class m.roots m) m.next p f m.next ∙ kind-new m class m.roots
 
   pub create-kind : (class : ℕ) (place : Place) → create m class place ≡ Ok n → kind n m.next ≡ Some class
   create-kind class place h = subst (λ (k : Contents). kind k m.next ≡ Some class) (accepted (refusal_of_create m class place) (created class place m) n h).1 (created-kind class place)

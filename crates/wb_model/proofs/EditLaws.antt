@@ -63,7 +63,7 @@ module _ (m : Contents) where
 
   metamodel-created : (class : ℕ) (place : Place) → (created class place m).metamodel ≡ m.metamodel
   metamodel-created class Root = refl
-  metamodel-created class (Inside p f) = metamodel-relink (λ l. list_any (λ k. false) (both_ends m.metamodel l)) (flat_map (both_ends m.metamodel) (link p f (Object m.next) ∷ [])) (with_object class m.roots m)
+  metamodel-created class (Inside p f) = metamodel-relink (λ l. list_any (leads_to m.metamodel m.next) (both_ends m.metamodel l)) (flat_map (both_ends m.metamodel) (link p f (Object m.next) ∷ [])) (with_object class m.roots m)
 
   metamodel-moved : (o p f : ℕ) → (moved o p f m).metamodel ≡ m.metamodel
   metamodel-moved o p f =
@@ -187,7 +187,7 @@ module _ (m : Contents) (well : WellFormed m.metamodel) (q g : ℕ) where
   keeps-created class Root = keeps-all (slot m q g)
   keeps-created class (Inside p f) =
       let l : Link = link p f (Object m.next) in
-      keeps-relink (λ k. list_any (λ j. false) (both_ends m.metamodel k)) (flat_map (both_ends m.metamodel) (l ∷ [])) (with_object class m.roots m) q g (alone-ends m.metamodel well l q g)
+      keeps-relink (λ k. list_any (leads_to m.metamodel m.next) (both_ends m.metamodel k)) (flat_map (both_ends m.metamodel) (l ∷ [])) (with_object class m.roots m) q g (alone-ends m.metamodel well l q g)
 
   keeps-moved : (o p f : ℕ) → Keeps (moved o p f m)
   unfolding Keeps

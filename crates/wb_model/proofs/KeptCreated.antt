@@ -1,42 +1,33 @@
 -- A new object keeps a model valid.
-use Rattle.std.proofs.Common.{◌≡◌, ◌≢◌, ℕ, ◌+◌, ◌<◌, ◌≤◌, ◌^◌, suc, Bool, true, false, not, ◌&&◌, List, [], ◌∷◌, ◌++◌, length, Some, None, refl, sym, ap, subst, ◌∙◌, cond, eqb, ltb, leb, arith, ◌⊎◌, inl, inr, ⊎_elim, append-nil}
+use Rattle.std.proofs.Common.{◌≡◌, ◌≢◌, ℕ, ◌+◌, ◌<◌, ◌≤◌, ◌^◌, suc, Bool, true, false, not, ◌&&◌, List, [], ◌∷◌, ◌++◌, Some, None, sym, ap, subst, ◌∙◌, cond, eqb, ltb, leb, arith, ◌⊎◌, inl, inr, ⊎_elim}
 use Rattle.std.proofs.lemmas.Bool.{and_parts, and_from, false≢true, not-false, not-true, not_from_false, leb-false, eqb-true, eq-eqb, ne_eqb, lt-ltb, or_left, or_right, or_cases, ltb-true}
 use Rattle.std.proofs.lemmas.Cmp.{nat_cmp_total}
 use Rattle.std.proofs.lemmas.Option.{same_Some}
 use Rattle.std.proofs.lemmas.List.Folds.{list_any-append}
 use Rattle.std.specs.Prelude.{IsSome, Ok}
-use Rattle.std.specs.Option.{option_map_or}
-use Rattle.std.specs.List.{list_any, flat_map}
+use Rattle.std.specs.List.{list_any}
 use Rattle.std.specs.FinMap.{len, get-insert, len-insert, contains_key}
-use Rattle.wb_ecore.specs.declared.features.Feature.{Feature}
-use Rattle.wb_ecore.specs.declared.features.Kind.{Kind}
-use Rattle.wb_ecore.specs.declared.features.Kind.TheVariants.{Int as IntKind, Bool as BoolKind, Text as TextKind, Enum, Reference}
-use Rattle.wb_metamodel.specs.Metamodel.{Metamodel, conforms, feature_at}
 use Rattle.wb_metamodel.specs.WellFormed.{WellFormed}
-use Rattle.wb_store.specs.declared.scalars.Scalar.{Scalar}
 use Rattle.wb_store.specs.declared.scalars.Scalar.TheVariants.{Object}
 use Rattle.wb_store.specs.declared.scalars.Place.{Place}
 use Rattle.wb_store.specs.declared.scalars.Place.TheVariants.{Root, In as Inside}
 use Rattle.wb_model.specs.declared.refusals.ModelRefusal.{ModelRefusal}
 use Rattle.wb_model.specs.declared.refusals.ModelRefusal.TheVariants.{UnknownObject, KindMismatch, UpperBound, AbstractClass, TooManyObjects, IdsSpent}
-use Rattle.wb_store.specs.Contents.{Contents, kind, slot, is_containment, contains}
+use Rattle.wb_store.specs.Contents.{Contents, kind, slot, contains}
 use Rattle.wb_store.specs.Places.{once}
-use Rattle.wb_validity.specs.Valid.{is_abstract, room, is_of_class, is_of_kind, is_of_feature, is_root, RootsAreUncontained, IsValid}
-use Rattle.wb_store.specs.Relinking.{Link, link, relink, both_ends}
-use Rattle.wb_model.specs.Edits.{with_object, created, first_refusal, is_live, may_contain, refers_to, is_full, refusal_of_create, create}
-use Rattle.wb_model.proofs.Changed.{stay_at, IsKnown, fits-one, sound-relink, relink-Stands, relink-stays, relink-comes, within-less}
-use Rattle.wb_model.proofs.Ends.{Opposed, containment-one, In-both_ends}
-use Rattle.wb_store.proofs.Filtered.{filter-few, filter-none}
+use Rattle.wb_validity.specs.Valid.{is_abstract, is_root, RootsAreUncontained, IsValid}
+use Rattle.wb_store.specs.Relinking.{link}
+use Rattle.wb_model.specs.Edits.{place, with_object, created, first_refusal, is_live, may_contain, is_full, refusal_of_create, create}
+use Rattle.wb_model.proofs.Changed.{within-less}
 use Rattle.wb_store.proofs.Found.{is_itself}
 use Rattle.wb_store.proofs.HolderLemmas.{decide}
-use Rattle.wb_model.proofs.KeptLinks.{not_refused, accepted, sound, housed, valid, one-space}
+use Rattle.wb_model.proofs.KeptLinks.{not_refused, accepted, sound, housed, valid}
 use Rattle.wb_validity.proofs.LinkLemmas.{to_false}
-use Rattle.wb_model.proofs.Live.{kind-some, some-kind, object-live, value-live, holder-live, contained-live, live-below, of_class-kept, of_feature-kept}
+use Rattle.wb_model.proofs.Live.{kind-some, some-kind, value-live, holder-live, contained-live, live-below, of_class-kept, of_feature-kept}
 use Rattle.wb_store.proofs.Members.{In}
-use Rattle.wb_store.proofs.Members.In.{here}
+use Rattle.wb_model.proofs.Placing.{may-hold, HasPlace, placed-sound, placed-only, placed-stays, placed-there, placed-kind}
 use Rattle.wb_model.proofs.Rehoused.{IsRehoused, housed-rehoused, within-first}
-use Rattle.wb_store.proofs.Relinked.{kind-relink}
-use Rattle.wb_model.proofs.Sound.{contains-parts, contains-from, Sound, Housed}
+use Rattle.wb_model.proofs.Sound.{Sound, Housed}
 use Rattle.wb_store.proofs.Maps.{tied}
 
 -- ---- what an accepted edit says
@@ -200,131 +191,43 @@ module _ (m : Contents) (class : ℕ) (s : Sound m) (h : Housed m) where
 
 -- ---- in a containment slot
 
-pub same-object : (x y : ℕ) → Object x ≡ Object y → x ≡ y
-same-object x y e = cc
-
--- the links that come with one
-pub In-ends : (mm : Metamodel) (l k : Link) → In k (flat_map (both_ends mm) (l ∷ [])) → (l ≡ k) ⊎ Opposed mm l k
-In-ends mm l k m = In-both_ends mm l k (subst (In k) (append-nil (both_ends mm l)) m)
-
-referred : (m : Contents) (c o : ℕ) (k : Kind) → kind m o ≡ Some c → refers_to m.metamodel c k ≡ true → is_of_kind m k (Object o) ≡ true
-referred m c o IntKind e h = absurd (false≢true h)
-referred m c o BoolKind e h = absurd (false≢true h)
-referred m c o TextKind e h = absurd (false≢true h)
-referred m c o (Enum d) e h = absurd (false≢true h)
-referred m c o (Reference d) e h = ap (λ r. option_map_or (λ b. conforms m.metamodel b d) r false) e ∙ h
-
--- a containment feature that may hold objects of a class is of the kind of each
-pub held-of_feature : (m : Contents) (f c o : ℕ) → kind m o ≡ Some c → option_map_or (λ (feature : Feature). refers_to m.metamodel c feature.kind) (feature_at m.metamodel f) false ≡ true → is_of_feature m f (Object o) ≡ true
-held-of_feature m f c o e h =
-    elim (feature_at m.metamodel f) as (λ r. option_map_or (λ (feature : Feature). refers_to m.metamodel c feature.kind) r false ≡ true → option_map_or (λ (feature : Feature). is_of_kind m feature.kind (Object o)) r false ≡ true) [
-      | None ↦ λ h. absurd (false≢true h)
-      | Some feature ↦ λ h. referred m c o feature.kind e h
-    ] h
-
-pub record MayHold (m : Contents) (p f c : ℕ) : Type 0 where
-  pub of_class : is_of_class m p f ≡ true
-  pub containment : is_containment m.metamodel f ≡ true
-  pub refers : option_map_or (λ (feature : Feature). refers_to m.metamodel c feature.kind) (feature_at m.metamodel f) false ≡ true
-
-pub may-hold : (m : Contents) (p f c : ℕ) → may_contain m p f c ≡ true → MayHold m p f c
-may-hold m p f c h =
-    let refers = option_map_or (λ (feature : Feature). refers_to m.metamodel c feature.kind) (feature_at m.metamodel f) false in
-    let both = and_parts (is_of_class m p f && is_containment m.metamodel f) refers h in
-    let first = and_parts (is_of_class m p f) (is_containment m.metamodel f) both.0 in
-    record { of_class = first.0; containment = first.1; refers = both.1 }
-
-module _ (m : Contents) (well : WellFormed m.metamodel) (s : Sound m) (h : Housed m) (class p f : ℕ) (may : MayCreate m class) (place : MayPlace m class p f) where
-  abbrev mm : Metamodel
-  mm = m.metamodel
-
+module _ (m : Contents) (well : WellFormed m.metamodel) (s : Sound m) (h : Housed m) (class p f : ℕ) (may : MayCreate m class) (place_is : MayPlace m class p f) where
   abbrev wider : Contents
   wider = with_object class m.roots m
 
-  abbrev new_link : Link
-  new_link = link p f (Object m.next)
-
-  abbrev nothing_leaves : Link → Bool
-  nothing_leaves l = list_any (λ k. false) (both_ends mm l)
-
-  abbrev placed : Contents
-  placed = relink nothing_leaves (flat_map (both_ends mm) (new_link ∷ [])) wider
-
-  holds : MayHold m p f class
-  holds = may-hold m p f class place.sort
-
-  leaves-none : (ls : List Link) → list_any (λ k. false) ls ≡ false
-  leaves-none [] = refl
-  leaves-none (l ∷ ls) = leaves-none ls
-
-  new-known : IsKnown wider new_link
-  new-known = (
-    of_class-kept m (suc m.next) wider.kinds m.slots m.roots p f (λ c e. kind-kept m class m.roots s p c e) holds.of_class,
-    held-of_feature wider f class m.next (kind-new m class m.roots) holds.refers,
-  )
-
-  -- the new object has no values, and stands nowhere
-  no-values : (g : ℕ) (v : Scalar) → In v (slot m m.next g) → ⊥
-  no-values g v i = next-dead m class m.roots s (object-live m s (link m.next g v) i)
-
+  -- the new object stands nowhere
   stands-nowhere : (q g : ℕ) → In (Object m.next) (slot m q g) → ⊥
   stands-nowhere q g i = next-dead m class m.roots s (value-live m s (link q g (Object m.next)) m.next i refl)
 
-  free : (k : Link) → (new_link ≡ k) ⊎ Opposed mm new_link k → length (stay_at nothing_leaves wider k.object k.feature) < room mm k.feature
-  free k e =
-      ⊎_elim
-      (λ same. subst (λ (k : Link). length (stay_at nothing_leaves wider k.object k.feature) < room mm k.feature) same
-      (let few = filter-few (λ v. not (nothing_leaves (link p f v))) (slot m p f) in let below = leb-false _ _ place.space in omega arith))
-      (λ o.
-      let at : m.next ≡ k.object = same-object m.next k.object o.to in
-      subst (λ vs. length vs < room mm k.feature)
-      (sym (filter-none (λ v. not (nothing_leaves (link k.object k.feature v))) (slot m k.object k.feature) (λ v i. absurd (no-values k.feature v (subst (λ q. In v (slot m q k.feature)) (sym at) i)))))
-      (one-space mm k.feature))
-      e
+  has : HasPlace wider m.next p f
+  has =
+      let holds = may-hold m p f class place_is.sort in
+      record {
+        class = class;
+        is_class = kind-new m class m.roots;
+        holds = record {
+          of_class = of_class-kept m (suc m.next) wider.kinds m.slots m.roots p f (λ c e. kind-kept m class m.roots s p c e) holds.of_class;
+          containment = holds.containment;
+          refers = holds.refers;
+        };
+        new = λ i. stands-nowhere p f i;
+        not_full = place_is.space;
+      }
 
-  sound-placed : Sound placed
-  sound-placed =
-      sound-relink nothing_leaves (flat_map (both_ends mm) (new_link ∷ [])) wider (sound-grown m class m.roots s may)
-      (fits-one wider well (sound-grown m class m.roots s may) (λ k. false) new_link new-known (λ i. stands-nowhere p f i) free)
+  sound-wider : Sound wider
+  sound-wider = sound-grown m class m.roots s may
 
-  only : (q g x : ℕ) → contains placed q g x ≡ true → ((contains m q g x ≡ true) × (x ≢ m.next)) ⊎ ((q ≡ p) × (g ≡ f) × (x ≡ m.next))
-  unfolding relink
-  only q g x c =
-      let parts = contains-parts placed q g x c in
-      let held : Link = link q g (Object x) in
-      ⊎_elim
-      (λ old. inl (contains-from m q g x parts.0 old.0, (λ e. stands-nowhere q g (subst (λ z. In (Object z) (slot m q g)) e old.0))))
-      (λ new. ⊎_elim
-      (λ e. inr (ap (λ (k : Link). k.object) (sym e), ap (λ (k : Link). k.feature) (sym e), same-object x m.next (ap (λ (k : Link). k.value) (sym e))))
-      (λ o. absurd (false≢true (sym (containment-one mm well f g o.features holds.containment) ∙ parts.0)))
-      (In-ends mm new_link held new))
-      (relink-Stands nothing_leaves (flat_map (both_ends mm) (new_link ∷ [])) wider held parts.1)
+  pub is_placed : contains (place m.next p f wider) p f m.next ≡ true
+  is_placed = placed-there wider well sound-wider m.next p f has
 
-  unleft : (l : Link) → nothing_leaves l ≡ false
-  unleft l = leaves-none (both_ends mm l)
-
-  stays : (q g x : ℕ) → contains m q g x ≡ true → contains placed q g x ≡ true
-  unfolding relink
-  stays q g x c =
-      let parts = contains-parts m q g x c in
-      contains-from placed q g x parts.0 (relink-stays nothing_leaves (flat_map (both_ends mm) (new_link ∷ [])) wider (link q g (Object x)) parts.1 (unleft (link q g (Object x))))
-
-  pub is_placed : contains placed p f m.next ≡ true
-  unfolding relink
-  is_placed = contains-from placed p f m.next holds.containment (relink-comes nothing_leaves (flat_map (both_ends mm) (new_link ∷ [])) wider new_link here)
-
-  kind-placed : (o : ℕ) → kind placed o ≡ kind wider o
-  kind-placed o = kind-relink nothing_leaves (flat_map (both_ends mm) (new_link ∷ [])) wider o
-
-  rehoused : IsRehoused m placed p f m.next
-  unfolding relink
+  rehoused : IsRehoused m (place m.next p f wider) p f m.next
   rehoused = record {
-    only = only;
-    stays = λ q g x c n. stays q g x c;
+    only = placed-only wider well sound-wider m.next p f has;
+    stays = placed-stays wider well sound-wider m.next p f has;
     placed = is_placed;
-    live = λ x live n. was-live m class m.roots s x (subst IsSome (kind-placed x) live) n;
-    lives = λ x live. subst IsSome (sym (kind-placed x)) (lives m class m.roots s x live);
-    apart = λ e. not-next m class m.roots s p place.live e;
+    live = λ x live n. was-live m class m.roots s x (subst IsSome (placed-kind wider m.next p f x) live) n;
+    lives = λ x live. subst IsSome (sym (placed-kind wider m.next p f x)) (lives m class m.roots s x live);
+    apart = λ e. not-next m class m.roots s p place_is.live e;
     not_within = λ w. let first = within-first m m.next p w in next-dead m class m.roots s (holder-live m s m.next first.0 first.1 first.2);
     roots_once = h.roots.each_once;
     root = λ x r. (r, not-next m class m.roots s x (h.roots.live x r));
@@ -332,7 +235,7 @@ module _ (m : Contents) (well : WellFormed m.metamodel) (s : Sound m) (h : House
   }
 
   placed-valid : IsValid (created class (Inside p f) m)
-  placed-valid = valid placed sound-placed (housed-rehoused m placed p f m.next rehoused h)
+  placed-valid = valid (place m.next p f wider) (placed-sound wider well sound-wider m.next p f has) (housed-rehoused m (place m.next p f wider) p f m.next rehoused h)
 
 created-valid : (m : Contents) → WellFormed m.metamodel → IsValid m → (class : ℕ) (place : Place) → refusal_of_create m class place ≡ None → IsValid (created class place m)
 created-valid m well v class Root e =

@@ -22,7 +22,7 @@ use Rattle.wb_model.proofs.Changed.{Fits, sound-relink, relink-Stands, relink-st
 use Rattle.wb_model.proofs.Ends.{Opposed}
 use Rattle.wb_model.proofs.FewerRoots.{among-filter, filter-among, once-filter}
 use Rattle.wb_store.proofs.Filtered.{In-cons, filter-few}
-use Rattle.wb_model.proofs.KeptCreated.{same-object}
+use Rattle.wb_model.proofs.Placing.{same-object}
 use Rattle.wb_model.proofs.KeptLinks.{accepted, sound, housed, valid}
 use Rattle.wb_validity.proofs.LinkLemmas.{any_found, to_false}
 use Rattle.wb_model.proofs.Live.{kind-some, some-kind, contained-live, of_class-kept, of_feature-kept}

@@ -20,6 +20,7 @@ pub mod Moving
 pub mod OtherEnds
 pub mod OtherFeatures
 pub mod Permuted
+pub mod Placing
 pub mod PlainFeatures
 pub mod Rehoused
 pub mod Sound

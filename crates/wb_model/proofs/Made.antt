@@ -22,7 +22,7 @@ use Rattle.wb_validity.specs.Conditions.{meets}
 use Rattle.wb_store.specs.Contents.{Contents, Filled, members, kind}
 use Rattle.wb_model.specs.Building.{Names, refusal_of, MakeModel, Refutes}
 use Rattle.wb_validity.specs.Flaws.{Finds}
-use Rattle.wb_store.specs.Links.{Kept}
+use Rattle.wb_store.specs.invariants.Links.{Kept}
 use Rattle.wb_store.specs.Parts.{made_of, record_of, is_listed}
 use Rattle.wb_store.specs.Places.{numbered}
 use Rattle.wb_store.specs.Records.{id_of, kind_entry, slot_entries}

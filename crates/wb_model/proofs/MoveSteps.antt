@@ -13,10 +13,10 @@ use Rattle.wb_store.specs.Contents.{Contents, Filled, members, slot, has_object,
 use Rattle.wb_store.specs.Cells.{holds, holder}
 use Rattle.wb_validity.specs.Valid.{is_root}
 use Rattle.wb_store.specs.Relinking.{Link, link, relink, both_ends, change, same_link, leads_to, without_root}
-use Rattle.wb_model.specs.Edits.{unlink}
+use Rattle.wb_model.specs.Edits.{unlink, place}
 use Rattle.wb_model.proofs.Changed.{both-same}
 use Rattle.wb_model.proofs.EditSteps.{relink-relink, relink-agree, same_link-is, same_link-itself}
-use Rattle.wb_model.proofs.Ends.{ends-this, ends-that, ends-cases}
+use Rattle.wb_model.proofs.Ends.{Opposed, ends-this, ends-that, ends-cases}
 use Rattle.wb_store.proofs.Filtered.{filter-all}
 use Rattle.wb_validity.proofs.LinkLemmas.{to_false}
 use Rattle.wb_model.proofs.Live.{contained-live}
@@ -82,16 +82,28 @@ no-root o m h =
     let same : filter (λ root. not (eqb root o)) m.roots ≡ m.roots = filter-all (λ root. not (eqb root o)) m.roots (λ q i. not_from_false _ (ne_eqb q o (λ e. false≢true (sym h ∙ any_In (λ root. eqb root o) m.roots q i (eq-eqb q o e))))) in
     λ i. record { metamodel = m.metamodel; next = m.next; kinds = m.kinds; slots = m.slots; roots = same i }
 
-module _ (m : Contents) (s : Sound m) (h : Housed m) (o : ℕ) where
-  leads-stands : (j : Link) → Stands m j → leads_to m.metamodel o j ≡ true → contains m j.object j.feature o ≡ true
-  leads-stands j i t =
-      let both = and_parts (is_containment m.metamodel j.feature) (same j.value (Object o)) t in
-      contains-from m j.object j.feature o both.0 (subst (λ v. In v (slot m j.object j.feature)) ((same_decides j.value (Object o)).0 both.1) i)
+leads-stands : (m : Contents) (o : ℕ) (j : Link) → Stands m j → leads_to m.metamodel o j ≡ true → contains m j.object j.feature o ≡ true
+leads-stands m o j i t =
+    let both = and_parts (is_containment m.metamodel j.feature) (same j.value (Object o)) t in
+    contains-from m j.object j.feature o both.0 (subst (λ v. In v (slot m j.object j.feature)) ((same_decides j.value (Object o)).0 both.1) i)
 
+-- an object that stands in no containment slot leaves none
+pub place-free : (m : Contents) → ((l k : Link) → Stands m l → Opposed m.metamodel l k → Stands m k) → (o p f : ℕ) → ((q g : ℕ) → contains m q g o ≡ false) → place o p f m ≡ change (λ j. false) (link p f (Object o) ∷ []) m
+place-free m agree o p f free =
+    let mm = m.metamodel in
+    let come : List Link = flat_map (both_ends mm) (link p f (Object o) ∷ []) in
+    relink-agree (λ j. list_any (leads_to mm o) (both_ends mm j)) (λ j. list_any (λ k. false) (both_ends mm j)) come come m
+    (λ j i. to_false _ (λ t. ⊎_elim
+    (λ e. false≢true (sym (free j.object j.feature) ∙ leads-stands m o j i e))
+    (λ w. false≢true (sym (free w.0.object w.0.feature) ∙ leads-stands m o w.0 (agree j w.0 i w.1) w.2))
+    (ends-cases mm (leads_to mm o) j t)) ∙ sym (none-any (both_ends mm j)))
+    (λ p f. refl)
+
+module _ (m : Contents) (s : Sound m) (h : Housed m) (o : ℕ) where
   -- it stands in one slot alone
   held-link : (q g : ℕ) → contains m q g o ≡ true → (j : Link) → Stands m j → leads_to m.metamodel o j ≡ true → link q g (Object o) ≡ j
   held-link q g c j i t =
-      let at = leads-stands j i t in
+      let at = leads-stands m o j i t in
       let both = and_parts (is_containment m.metamodel j.feature) (same j.value (Object o)) t in
       let v : j.value ≡ Object o = (same_decides j.value (Object o)).0 both.1 in
       let only = h.once o q j.object g j.feature (contained-live m s q g o c) c at in
@@ -127,16 +139,3 @@ module _ (m : Contents) (s : Sound m) (h : Housed m) (o : ℕ) where
       ap (change (leads_to mm o) (l ∷ [])) (no-root o m (to_false _ (λ r. false≢true (sym (h.roots.uncontained o q g r) ∙ c))))
       ∙ relink-agree (λ j. list_any (leads_to mm o) (both_ends mm j)) (λ j. goes j || none j) come come m (λ j i. goes-held q g c j i ∙ sym (or-none (goes j) (both_ends mm j))) (λ p f. refl)
       ∙ sym (relink-relink goes none [] come m)
-
-  -- it leaves the roots, and comes
-  pub moved-root : (l : Link) → ((q g : ℕ) → contains m q g o ≡ false) → change (leads_to m.metamodel o) (l ∷ []) (without_root o m) ≡ change (λ j. false) (l ∷ []) (without_root o m)
-  unfolding relink
-  moved-root l free =
-      let mm = m.metamodel in
-      let come : List Link = flat_map (both_ends mm) (l ∷ []) in
-      relink-agree (λ j. list_any (leads_to mm o) (both_ends mm j)) (λ j. list_any (λ k. false) (both_ends mm j)) come come (without_root o m)
-      (λ j i. to_false _ (λ t. ⊎_elim
-      (λ e. false≢true (sym (free j.object j.feature) ∙ leads-stands j i e))
-      (λ w. false≢true (sym (free w.0.object w.0.feature) ∙ leads-stands w.0 (s.agree j w.0 i w.1) w.2))
-      (ends-cases mm (leads_to mm o) j t)) ∙ sym (none-any (both_ends mm j)))
-      (λ p f. refl)

@@ -15,7 +15,7 @@ use Rattle.wb_model.specs.Edits.{unlink, moved}
 use Rattle.wb_store.specs.LinkSteps.{with_ends}
 use Rattle.wb_model.proofs.Comings.{come_then, keep_given}
 use Rattle.wb_model.proofs.EditSteps.{relink-relink, relink-agree}
-use Rattle.wb_model.proofs.MoveSteps.{moved-held, moved-root}
+use Rattle.wb_model.proofs.MoveSteps.{moved-held, place-free}
 use Rattle.wb_model.proofs.Sound.{Stands, absent, contains-parts}
 use Rattle.wb_model.proofs.KeptLinks.{housed, sound}
 use Rattle.wb_store.proofs.Relinked.{metamodel-relink, none-any}
@@ -70,5 +70,5 @@ module _ (m : Contents) (well : WellFormed m.metamodel) (valid : IsValid m) wher
   pub rehoused_root : (o p f : ℕ) → ((q g : ℕ) → contains m q g o ≡ false) → stands m (link p f (Object o)) ≡ false → without_root o (with_ends (link p f (Object o)) m) ≡ moved o p f m
   rehoused_root o p f free fresh =
       root_last o (link p f (Object o))
-      ∙ sym (moved-root m (sound m valid) (housed m valid) o (link p f (Object o)) free)
+      ∙ sym (place-free (without_root o m) (sound m valid).agree o p f free)
       ∙ moved_fresh o p f fresh

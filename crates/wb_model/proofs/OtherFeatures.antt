@@ -16,7 +16,7 @@ use Rattle.wb_model.specs.EditLaws.{ChangesOnly}
 use Rattle.wb_model.proofs.Changed.{alone-ends}
 use Rattle.wb_model.proofs.Ends.{opposite-back, In-both_ends, ends-cases}
 use Rattle.wb_store.proofs.Filtered.{filter-all}
-use Rattle.wb_model.proofs.KeptCreated.{In-ends}
+use Rattle.wb_model.proofs.Placing.{In-ends}
 use Rattle.wb_model.proofs.KeptLinks.{accepted}
 use Rattle.wb_validity.proofs.LinkLemmas.{any_found, to_false}
 use Rattle.wb_store.proofs.Relinked.{values_at, is_at-link, slot-relink, kind-relink, roots-relink}

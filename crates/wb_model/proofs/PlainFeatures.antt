@@ -12,15 +12,16 @@ use Rattle.wb_store.specs.Scalars.{same}
 use Rattle.wb_store.specs.Contents.{Contents, kind, slot, is_containment}
 use Rattle.wb_store.specs.Cells.{is_plain}
 use Rattle.wb_store.specs.Relinking.{Link, link, relink, both_ends, change, leads_to, stands, without_root}
-use Rattle.wb_model.specs.Edits.{with_object, created, moved, refusal_of_create, refusal_of_move, create, move_to}
+use Rattle.wb_model.specs.Edits.{place, with_object, created, moved, refusal_of_create, refusal_of_move, create, move_to}
 use Rattle.wb_model.proofs.Changed.{alone-ends}
 use Rattle.wb_model.proofs.Ends.{plain-parts, plain-other, opposite-back, ends-cases}
 use Rattle.wb_store.proofs.Filtered.{filter-all}
-use Rattle.wb_model.proofs.KeptCreated.{In-ends, may-place, may-hold, kind-other}
+use Rattle.wb_model.proofs.KeptCreated.{may-place, kind-other}
 use Rattle.wb_model.proofs.KeptLinks.{accepted}
 use Rattle.wb_model.proofs.KeptMoved.{may-move, moves-into}
+use Rattle.wb_model.proofs.Placing.{In-ends, may-hold, placed-kind}
 use Rattle.wb_validity.proofs.LinkLemmas.{to_false}
-use Rattle.wb_store.proofs.Relinked.{values_at, slot-relink, kind-relink, none-any}
+use Rattle.wb_store.proofs.Relinked.{values_at, slot-relink}
 
 module _ (m : Contents) (well : WellFormed m.metamodel) (h : ℕ) (plain : is_plain m.metamodel h ≡ true) (q : ℕ) where
   -- with a containment link no link of a plain feature comes
@@ -57,8 +58,8 @@ module _ (m : Contents) (well : WellFormed m.metamodel) (h : ℕ) (plain : is_pl
   created-plain class (Inside p f) e =
       let l : Link = link p f (Object m.next) in
       let may = may-place m class p f e in
-      placed-plain (λ k. list_any (λ j. false) (both_ends m.metamodel k)) l (with_object class m.roots m)
-      (λ w. none-any (both_ends m.metamodel (link q h w))) (may-hold m p f class may.0.sort).containment refl
+      placed-plain (λ k. list_any (leads_to m.metamodel m.next) (both_ends m.metamodel k)) l (with_object class m.roots m)
+      (none-leaves m.next) (may-hold m p f class may.0.sort).containment refl
 
   moved-plain : (o p f : ℕ) → refusal_of_move m o p f ≡ None → slot (moved o p f m) q h ≡ slot m q h
   moved-plain o p f e =
@@ -85,9 +86,7 @@ module _ (m : Contents) (well : WellFormed m.metamodel) (h : ℕ) (plain : is_pl
 module _ (m n : Contents) where
   created-others : (class : ℕ) (place : Place) (x : ℕ) → x ≢ m.next → kind (created class place m) x ≡ kind m x
   created-others class Root x other = kind-other m class (m.roots ++ m.next ∷ []) x other
-  created-others class (Inside p f) x other =
-      kind-relink (λ k. list_any (λ j. false) (both_ends m.metamodel k)) (flat_map (both_ends m.metamodel) (link p f (Object m.next) ∷ [])) (with_object class m.roots m) x
-      ∙ kind-other m class m.roots x other
+  created-others class (Inside p f) x other = placed-kind (with_object class m.roots m) m.next p f x ∙ kind-other m class m.roots x other
 
   pub create-others : (class : ℕ) (place : Place) → create m class place ≡ Ok n → (x : ℕ) → x ≢ m.next → kind n x ≡ kind m x
   create-others class place e x other =
@@ -95,9 +94,8 @@ module _ (m n : Contents) where
 
   pub move-others : (o p f : ℕ) → move_to m o p f ≡ Ok n → (x : ℕ) → kind n x ≡ kind m x
   move-others o p f e x =
-      let l : Link = link p f (Object o) in
       ap (λ (k : Contents). kind k x) (sym (accepted (refusal_of_move m o p f) (moved o p f m) n e).1)
-      ∙ elim (stands m l) as (λ b. kind (cond b m (change (leads_to m.metamodel o) (l ∷ []) (without_root o m))) x ≡ kind m x) [
+      ∙ elim (stands m (link p f (Object o))) as (λ b. kind (cond b m (place o p f (without_root o m))) x ≡ kind m x) [
         | true ↦ refl
-        | false ↦ kind-relink (λ k. list_any (leads_to m.metamodel o) (both_ends m.metamodel k)) (flat_map (both_ends m.metamodel) (l ∷ [])) (without_root o m) x
+        | false ↦ placed-kind (without_root o m) o p f x
       ]

@@ -6,7 +6,7 @@ use Rattle.std.specs.FinMap.{insert, len}
 use Rattle.wb_metamodel.specs.Metamodel.{Metamodel, conforms, feature_at}
 use Rattle.wb_ecore.specs.declared.features.Feature.{Feature}
 use Rattle.wb_ecore.specs.declared.features.Kind.{Kind}
-use Rattle.wb_ecore.specs.declared.features.Kind.TheVariants.{Reference}
+use Rattle.wb_ecore.specs.declared.features.Kind.TheVariants.{Int as IntKind, Bool as BoolKind, Text as TextKind, Enum, Reference}
 use Rattle.wb_store.specs.declared.scalars.Scalar.{Scalar}
 use Rattle.wb_store.specs.declared.scalars.Scalar.TheVariants.{Object}
 use Rattle.wb_store.specs.declared.scalars.Place.{Place}
@@ -41,13 +41,17 @@ with_object class roots m = record {
   roots = roots;
 }
 
+-- an object goes last in a containment slot, and leaves the one that contained it
+abbrev pub place : ℕ → ℕ → ℕ → Contents → Contents
+place o p f m = change (leads_to m.metamodel o) (link p f (Object o) ∷ []) m
+
 abbrev pub created : ℕ → Place → Contents → Contents
 created class Root m = with_object class (m.roots ++ (m.next ∷ [])) m
-created class (In p f) m = change (λ l. false) (link p f (Object m.next) ∷ []) (with_object class m.roots m)
+created class (In p f) m = place m.next p f (with_object class m.roots m)
 
--- an object leaves its container, or the roots, and goes last in a containment slot
+-- an object that stands there already stays
 abbrev pub moved : ℕ → ℕ → ℕ → Contents → Contents
-moved o p f m = if stands m (link p f (Object o)) then m else change (leads_to m.metamodel o) (link p f (Object o) ∷ []) (without_root o m)
+moved o p f m = if stands m (link p f (Object o)) then m else place o p f (without_root o m)
 
 abbrev pub removed : ℕ → Contents → Contents
 removed o m = without (o ∷ tree m o) m
@@ -81,8 +85,11 @@ is_plain_link m l = is_plain_feature m l.object l.feature && is_of_feature m l.f
 
 -- is it a containment feature of the object's class, that may hold objects of a class?
 abbrev pub refers_to : Metamodel → ℕ → Kind → Bool
+refers_to metamodel c IntKind = false
+refers_to metamodel c BoolKind = false
+refers_to metamodel c TextKind = false
+refers_to metamodel c (Enum e) = false
 refers_to metamodel c (Reference d) = conforms metamodel c d
-refers_to metamodel c _ = false
 
 abbrev pub may_contain : Contents → ℕ → ℕ → ℕ → Bool
 may_contain m p f c = is_of_class m p f && is_containment m.metamodel f && option_map_or (λ (feature : Feature). refers_to m.metamodel c feature.kind) (feature_at m.metamodel f) false

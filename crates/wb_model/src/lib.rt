@@ -3,21 +3,13 @@
 
 mod building;
 mod change_list;
-mod edit_laws;
 mod edits;
-mod edits_checks;
-mod edits_creations;
-mod edits_links;
-mod edits_moves;
-mod edits_of_models;
-mod edits_places;
-mod edits_removals;
 mod model;
 mod refusals;
 
 pub use building::{BuildRefusal, build};
 pub use change_list::ChangeList;
-pub use edit_laws::{
+pub use edits::{
     created_objects_have_their_place, edits_change_their_slot, edits_give_new_numbers,
     edits_keep_models_valid, edits_keep_opposites, edits_keep_the_order,
     edits_leave_other_features, edits_may_change_nothing, edits_of_objects_leave_plain_features,
@@ -26,4 +18,4 @@ pub use edit_laws::{
 pub use model::{Model, empty};
 pub use refusals::ModelRefusal;
 pub use wb_store::{Cell, Part, Place, Scalar, SlotPart};
-pub use wb_validity::validity_is_decided;
+pub use wb_validity::{contents_are_in_range, trees_are_in_order, validity_is_decided};

@@ -12,8 +12,9 @@ use Rattle.wb_store.specs.declared.records.Record.{Record}
 use Rattle.wb_store.specs.declared.records.Slot.{Slot}
 use Rattle.wb_store.specs.Contents.{Filled, members}
 use Rattle.wb_store.specs.Places.{rises, once}
-use Rattle.wb_store.specs.Records.{id_of, feature_of, kind_entry, filled, slot_entry, slot_entries, contents_of, is_known, is_known_slot, IsPlain}
-use Rattle.wb_store.specs.Arranged.{IsArranged}
+use Rattle.wb_store.specs.Records.{id_of, feature_of, kind_entry, filled, slot_entry, slot_entries, contents_of, is_known, is_known_slot}
+use Rattle.wb_store.specs.invariants.Plain.{IsPlain}
+use Rattle.wb_store.specs.invariants.Arranged.{IsArranged}
 use Rattle.wb_store.proofs.Maps.{slot_cmp_total, slot_cmp-IsAntisymmetric}
 use Rattle.wb_store.proofs.Members.{In, IsFunctional, In-permutation, In-map, map-In, In-flat_map, flat_map-In, zip_left, zip_right, all_In, In-all, once-apart, rises_sorted, from_entries-same}
 use Rattle.wb_store.proofs.Members.In.{here, there}

@@ -14,7 +14,8 @@ use Rattle.wb_store.specs.declared.records.Record.{Record}
 use Rattle.wb_store.specs.declared.records.Slot.{Slot}
 use Rattle.wb_store.specs.Contents.{Contents, kind}
 use Rattle.wb_store.specs.Places.{rises, numbered}
-use Rattle.wb_store.specs.Records.{id_of, feature_of, values_in, is_known, is_known_slot, kind_entry, contents_of, IsPlain}
+use Rattle.wb_store.specs.Records.{id_of, feature_of, values_in, is_known, is_known_slot, kind_entry, contents_of}
+use Rattle.wb_store.specs.invariants.Plain.{IsPlain}
 use Rattle.wb_store.specs.LinkSteps.{Grows}
 use Rattle.wb_store.proofs.Found.{is_itself}
 use Rattle.wb_store.proofs.Maps.{find-kinds, kind-numbered, slot-numbered}

@@ -10,8 +10,8 @@ use Rattle.wb_store.specs.declared.containment.Link.{Link}
 use Rattle.wb_store.specs.declared.records.Record.{Record}
 use Rattle.wb_store.specs.Places.{rises, IsPlaceOf}
 use Rattle.wb_store.specs.Records.{id_of}
-use Rattle.wb_store.specs.Links.{Notes, AreHolders, IsHeldTwice}
-use Rattle.wb_store.specs.Links.Notes.{dead, fresh, again, clash}
+use Rattle.wb_store.specs.invariants.Links.{Notes, AreHolders, IsHeldTwice}
+use Rattle.wb_store.specs.invariants.Links.Notes.{dead, fresh, again, clash}
 use Rattle.wb_store.proofs.Found.{rises-below, is_itself}
 use Rattle.wb_store.proofs.Members.{In, Contains-In, In-Contains}
 use Rattle.wb_store.proofs.Members.In.{here, there}

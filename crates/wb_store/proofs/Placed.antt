@@ -9,7 +9,7 @@ use Rattle.std.specs.Ordering.{nat_cmp}
 use Rattle.std.specs.List.{list_all}
 use Rattle.std.specs.List.Sorted.{IsBinarySearchResult, IsSearchInRange}
 use Rattle.wb_store.specs.Places.{rises, numbered}
-use Rattle.wb_store.specs.Slots.{IsGapFor, IsPlaceOrGap}
+use Rattle.wb_store.specs.invariants.Slots.{IsGapFor, IsPlaceOrGap}
 use Rattle.wb_store.proofs.Found.{rises-below, rises-sorted}
 use Rattle.std.specs.Option.{option_map_or}
 

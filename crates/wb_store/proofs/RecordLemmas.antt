@@ -10,7 +10,7 @@ use Rattle.wb_store.specs.declared.records.Record.{Record}
 use Rattle.wb_store.specs.declared.records.Slot.{Slot}
 use Rattle.wb_store.specs.Places.{rises, numbered, IsPlaceOf}
 use Rattle.wb_store.specs.Records.{id_of, feature_of, values_in, is_known_slot, is_known, kind_entry}
-use Rattle.wb_store.specs.Slots.{SlotsChange, held_at, RecordsChange}
+use Rattle.wb_store.specs.invariants.Slots.{SlotsChange, held_at, RecordsChange}
 use Rattle.wb_store.proofs.Found.{all_numbered, numbered_read, numbered_none}
 use Rattle.wb_store.proofs.Placed.{rises-set, numbered-set, all-set, pick}
 

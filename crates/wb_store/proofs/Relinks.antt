@@ -11,8 +11,9 @@ use Rattle.wb_store.specs.declared.records.Record.{Record}
 use Rattle.wb_store.specs.Contents.{Contents, kind, slot}
 use Rattle.wb_store.specs.Scalars.{same}
 use Rattle.wb_store.specs.Places.{numbered}
-use Rattle.wb_store.specs.Records.{contents_of, IsPlain, id_of}
-use Rattle.wb_store.specs.Slots.{held_at, RecordsChange}
+use Rattle.wb_store.specs.Records.{contents_of, id_of}
+use Rattle.wb_store.specs.invariants.Plain.{IsPlain}
+use Rattle.wb_store.specs.invariants.Slots.{held_at, RecordsChange}
 use Rattle.wb_store.specs.Relinking.{Link, link, relink, is_at, same_link}
 use Rattle.wb_store.specs.LinkSteps.{with_link, with_only, without_link, without_slot}
 use Rattle.wb_store.proofs.Maps.{slot-numbered, kind-numbered}

@@ -9,8 +9,9 @@ use Rattle.wb_store.specs.declared.records.Record.{Record}
 use Rattle.wb_store.specs.declared.records.Slot.{Slot}
 use Rattle.wb_store.specs.Contents.{Contents}
 use Rattle.wb_store.specs.Places.{rises, numbered}
-use Rattle.wb_store.specs.Records.{id_of, feature_of, values_in, is_known, is_known_slot, contents_of, IsPlain}
-use Rattle.wb_store.specs.Removals.{values_left, slot_left, record_left, stays}
+use Rattle.wb_store.specs.Records.{id_of, feature_of, values_in, is_known, is_known_slot, contents_of}
+use Rattle.wb_store.specs.invariants.Plain.{IsPlain}
+use Rattle.wb_store.specs.invariants.Removals.{values_left, slot_left, record_left, stays}
 use Rattle.wb_store.specs.Relinking.{is_among, touches, without}
 use Rattle.wb_store.proofs.Without.{kind-without, slot-without}
 use Rattle.wb_store.proofs.Maps.{kind-numbered, slot-numbered}

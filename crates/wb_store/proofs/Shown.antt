@@ -6,7 +6,8 @@ use Rattle.wb_store.specs.declared.records.Record.{Record}
 use Rattle.std.specs.List.{flat_map}
 use Rattle.std.specs.FinMap.{entries}
 use Rattle.wb_store.specs.Contents.{Contents}
-use Rattle.wb_store.specs.Records.{is_known, contents_of, IsPlain, kind_entry, slot_entries}
+use Rattle.wb_store.specs.Records.{is_known, contents_of, kind_entry, slot_entries}
+use Rattle.wb_store.specs.invariants.Plain.{IsPlain}
 use Rattle.wb_store.proofs.Maps.{entries-kinds, entries-slots}
 
 pub is_class_known : (metamodel : Metamodel) (r : Record) → is_known metamodel r ≡ true → r.class < length metamodel.classes

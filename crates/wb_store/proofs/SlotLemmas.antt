@@ -6,7 +6,7 @@ use Rattle.wb_store.specs.declared.scalars.Scalar.{Scalar}
 use Rattle.wb_store.specs.declared.records.Slot.{Slot}
 use Rattle.wb_store.specs.Places.{rises, numbered, IsPlaceOf}
 use Rattle.wb_store.specs.Records.{feature_of, values_in, is_known_slot}
-use Rattle.wb_store.specs.Slots.{IsGapFor, SlotsChange}
+use Rattle.wb_store.specs.invariants.Slots.{IsGapFor, SlotsChange}
 use Rattle.wb_store.proofs.Found.{numbered_read, numbered_none, is_itself}
 use Rattle.wb_store.proofs.Placed.{rises-set, numbered-set, all-set, rises-insert, numbered-insert, none-gap, all-insert, pick}
 

@@ -6,6 +6,8 @@ use Rattle.std.specs.FinMap.{entries, len}
 use Rattle.wb_metamodel.specs.Metamodel.{Metamodel, conforms, features_of}
 use Rattle.wb_store.specs.declared.scalars.Scalar.{Scalar}
 use Rattle.wb_store.specs.declared.scalars.Scalar.TheVariants.{Object}
+use Rattle.wb_store.specs.declared.scalars.Cell.{Cell}
+use Rattle.wb_store.specs.declared.scalars.Cell.TheVariants.{Kind, Slot, Holder, Tree, Inverse, Extent, Roots}
 use Rattle.wb_store.specs.Contents.{Contents, Filled, members, kind, slot, has_object, is_containment}
 use Rattle.wb_store.specs.Features.{opposite}
 
@@ -59,3 +61,23 @@ refers metamodel o e = is_plain metamodel e.0.1 && has_object (members e.1) o
 -- the objects and plain references that hold an object, ascending
 abbrev pub inverse : Contents → ℕ → List (ℕ × ℕ)
 inverse m o = map (λ (e : (ℕ × ℕ) × Filled). e.0) (filter (refers m.metamodel o) (entries m.slots))
+
+-- what stands in a cell: a class, values, a container with its feature, objects, or objects with references
+abbrev pub InCell : Cell → Type 0
+InCell (Kind o) = Option ℕ
+InCell (Slot o f) = List Scalar
+InCell (Holder o) = Option (ℕ × ℕ)
+InCell (Tree o) = List ℕ
+InCell (Inverse o) = List (ℕ × ℕ)
+InCell (Extent c) = List ℕ
+InCell Roots = List ℕ
+
+-- what stands in a cell of a model
+abbrev pub cell : Contents → (c : Cell) → InCell c
+cell m (Kind o) = kind m o
+cell m (Slot o f) = slot m o f
+cell m (Holder o) = holder m o
+cell m (Tree o) = tree m o
+cell m (Inverse o) = inverse m o
+cell m (Extent c) = extent m c
+cell m Roots = m.roots

@@ -1,15 +1,11 @@
-pub mod Arranged
 pub mod Cells
 pub mod Contents
 pub mod Features
 pub mod LinkSteps
-pub mod Links
-pub mod Marks
 pub mod Parts
 pub mod Places
 pub mod Records
 pub mod Relinking
-pub mod Removals
 pub mod ScalarLaws
 pub mod Scalars
-pub mod Slots
+pub mod invariants

@@ -53,10 +53,3 @@ is_known_slot metamodel s = nat_lt s.feature (length metamodel.features)
 
 abbrev pub is_known : Metamodel → Record → Bool
 is_known metamodel r = nat_lt r.class (length metamodel.classes) && list_all (is_known_slot metamodel) r.slots
-
--- what is true of the list in which objects are kept
-pub record IsPlain (metamodel : Metamodel) (records : List Record) : Type 0 where
-  -- objects by number, and the slots of each by feature
-  pub objects_rise : rises id_of records ≡ true
-  pub slots_rise : list_all (λ (r : Record). rises feature_of r.slots) records ≡ true
-  pub known : list_all (is_known metamodel) records ≡ true

@@ -1,5 +1,5 @@
 -- Scalars: the values that stand in slots.
-use Rattle.std.specs.Prelude.{Bool, false, ◌&&◌, ◌++◌, nat_eq}
+use Rattle.std.specs.Prelude.{ℤ, pos, negsuc, ◌^◌, Bool, false, ◌&&◌, ◌++◌, nat_eq, nat_lt}
 use Rattle.std.specs.Bool.{beq}
 use Rattle.std.specs.Ordering.{int_eq}
 use Rattle.std.specs.Hash as fed
@@ -16,6 +16,11 @@ same (Text a) (Text b) = pointwise nat_eq a b
 same (Literal a k) (Literal b l) = nat_eq a b && nat_eq k l
 same (Object a) (Object b) = nat_eq a b
 same _ _ = false
+
+-- an integer of 64 signed bits
+abbrev pub is_int64 : ℤ → Bool
+is_int64 (pos n) = nat_lt n (2 ^ 63)
+is_int64 (negsuc n) = nat_lt n (2 ^ 63)
 
 -- what a scalar gives to a hasher
 abbrev pub hashed : Scalar → HashWrites

@@ -1,6 +1,6 @@
 ghost use Rattle.std.specs.Prelude.{◌≡◌, true, map, IfOk};
 ghost use Rattle.std.specs.List.{list_all, AllZip};
-ghost use Rattle.wb_store.specs.Arranged.{AreArranged, IsArranged};
+ghost use Rattle.wb_store.specs.invariants.Arranged.{AreArranged, IsArranged};
 ghost use Rattle.wb_store.specs.Parts.{slot_of, record_of};
 ghost use Rattle.wb_store.specs.Records.{feature_of};
 ghost use Rattle.wb_store.specs.Places.{once};

@@ -1,5 +1,5 @@
 ghost use Rattle.std.specs.Prelude.{◌≡◌, ◌↔◌, true, false, IfOk, IsTrue, length, All, None};
-ghost use Rattle.wb_store.specs.Links.{Notes, AreHolders};
+ghost use Rattle.wb_store.specs.invariants.Links.{Notes, AreHolders};
 ghost use Rattle.wb_store.specs.Places.{rises};
 ghost use Rattle.wb_store.specs.Records.{id_of};
 

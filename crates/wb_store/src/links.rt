@@ -1,6 +1,6 @@
 ghost use Rattle.std.specs.Prelude.{◌≡◌, ◌++◌, true, IfOk, OnOk};
 ghost use Rattle.std.specs.List.{list_all, flat_map};
-ghost use Rattle.wb_store.specs.Links.{link, slot_links, links_of};
+ghost use Rattle.wb_store.specs.invariants.Links.{link, slot_links, links_of};
 ghost use Rattle.wb_store.specs.Records.{is_known, is_known_slot};
 
 use crate::containment::Link;

@@ -1,5 +1,5 @@
 ghost use Rattle.std.specs.Prelude.{◌≡◌, length};
-ghost use Rattle.wb_store.specs.Marks.{first_marked};
+ghost use Rattle.wb_store.specs.invariants.Marks.{first_marked};
 
 use crate::records::Record;
 use wb_metamodel::ObjectId;

@@ -1,6 +1,6 @@
 ghost use Rattle.std.specs.Prelude.{◌≡◌, not, map, filter};
 ghost use Rattle.wb_store.specs.Relinking.{is_among, is_value_among};
-ghost use Rattle.wb_store.specs.Removals.{values_left, slot_left, record_left, stays};
+ghost use Rattle.wb_store.specs.invariants.Removals.{values_left, slot_left, record_left, stays};
 
 use crate::object_sets::ObjectSet;
 use crate::records::{Record, Slot};

@@ -2,7 +2,7 @@ ghost use Rattle.std.specs.Prelude.{◌≡◌, [], ◌∷◌, ◌++◌, true, no
 ghost use Rattle.wb_store.specs.Places.{rises, IsPlaceOf};
 ghost use Rattle.wb_store.specs.Records.{feature_of, values_in};
 ghost use Rattle.wb_store.specs.Scalars.{same};
-ghost use Rattle.wb_store.specs.Slots.{IsPlaceOrGap, SlotsChange};
+ghost use Rattle.wb_store.specs.invariants.Slots.{IsPlaceOrGap, SlotsChange};
 
 use crate::records::{Slot, place_of_feature};
 use crate::scalars::Scalar;

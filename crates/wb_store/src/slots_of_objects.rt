@@ -3,7 +3,7 @@ ghost use Rattle.std.specs.List.{list_all};
 ghost use Rattle.wb_store.specs.Places.{rises, numbered};
 ghost use Rattle.wb_store.specs.Records.{id_of, feature_of};
 ghost use Rattle.wb_store.specs.Scalars.{same};
-ghost use Rattle.wb_store.specs.Slots.{held_at, RecordsChange};
+ghost use Rattle.wb_store.specs.invariants.Slots.{held_at, RecordsChange};
 
 use crate::records::{Record, place_of_object};
 use crate::scalars::Scalar;

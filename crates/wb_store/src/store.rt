@@ -24,13 +24,23 @@ use wb_base::{Duplicate, List};
 use wb_metamodel::{ClassId, FeatureId, Metamodel, ObjectId};
 
 /// Objects with their slots, whether they make a valid model or not.
-#[derive(Drop)]
 pub struct Store {
     metamodel: Metamodel,
     next: u32,
     // ascending by number, so that an object is found by halving
     records: Vec<Record>,
     roots: List<ObjectId>,
+}
+
+impl Drop for Store {
+    fn drop(self) {
+        let Store {
+            metamodel: _metamodel,
+            next: _,
+            records: _records,
+            roots: _roots,
+        } = self;
+    }
 }
 
 impl Model for Store {
@@ -42,7 +52,8 @@ impl Model for Store {
 
     ghost coded = { Prim.hlevel (codes, map.code) };
 
-    ghost use Rattle.wb_store.specs.Records.{contents_of, IsPlain};
+    ghost use Rattle.wb_store.specs.Records.{contents_of};
+    ghost use Rattle.wb_store.specs.invariants.Plain.{IsPlain};
 
     ghost view = { λ s. contents_of s.metamodel s.next s.records.items s.roots };
 
@@ -52,8 +63,9 @@ impl Model for Store {
 impl Store {
     ghost use Rattle.std.specs.Prelude.{List as Many};
     ghost use Rattle.wb_store.specs.declared.records.Record.{Record as Kept};
-    ghost use Rattle.wb_store.specs.Links.{Kept as IsKept};
-    ghost use Rattle.wb_store.specs.Records.{contents_of, IsPlain};
+    ghost use Rattle.wb_store.specs.invariants.Links.{Kept as IsKept};
+    ghost use Rattle.wb_store.specs.Records.{contents_of};
+    ghost use Rattle.wb_store.specs.invariants.Plain.{IsPlain};
     ghost use Rattle.wb_store.specs.Parts.{AreParts, made_of};
 
     /// No objects, and the numbers from 1 on.

@@ -13,7 +13,7 @@ use Rattle.wb_store.specs.declared.records.Slot.{Slot}
 use Rattle.wb_store.specs.Contents.{Contents, Filled, members}
 use Rattle.wb_validity.specs.Conditions.{meets}
 use Rattle.wb_validity.specs.Broken.{least, slots_at, slots_meet}
-use Rattle.wb_store.specs.Links.{Kept}
+use Rattle.wb_store.specs.invariants.Links.{Kept}
 use Rattle.wb_store.specs.Places.{rises}
 use Rattle.wb_store.specs.Records.{id_of, kind_entry, filled, slot_entry, slot_entries}
 use Rattle.wb_store.proofs.Found.{is_itself}

@@ -5,6 +5,7 @@ pub mod Findings
 pub mod LinkLemmas
 pub mod Marked
 pub mod Opposed
+pub mod Ranges
 pub mod RingLemmas
 pub mod RootLemmas
 pub mod Trees

@@ -16,7 +16,7 @@ use Rattle.wb_store.specs.Contents.{Contents, is_containment, has_object, contai
 use Rattle.wb_store.specs.Places.{rises, numbered, IsPlaceOf}
 use Rattle.wb_store.specs.Records.{id_of, feature_of, values_in}
 use Rattle.wb_validity.specs.Valid.{AreContainedOnce}
-use Rattle.wb_store.specs.Links.{link, slot_links, record_links, links_of, Kept, AreHolders, KnowsHolders}
+use Rattle.wb_store.specs.invariants.Links.{link, slot_links, record_links, links_of, Kept, AreHolders, KnowsHolders}
 use Rattle.wb_validity.specs.Broken.{is_held_twice}
 use Rattle.wb_store.proofs.Found.{is_itself}
 use Rattle.wb_store.proofs.Maps.{kind-numbered, slot-numbered}

@@ -6,9 +6,9 @@ use Rattle.std.specs.List.{find, slice_get}
 use Rattle.wb_store.specs.declared.records.Record.{Record}
 use Rattle.wb_store.specs.Contents.{Contents}
 use Rattle.wb_validity.specs.Broken.{least, is_held_twice}
-use Rattle.wb_store.specs.Links.{Kept, AreHolders, KnowsHolders, links_of}
+use Rattle.wb_store.specs.invariants.Links.{Kept, AreHolders, KnowsHolders, links_of}
 use Rattle.wb_store.specs.declared.containment.Link.{Link}
-use Rattle.wb_store.specs.Marks.{first_marked}
+use Rattle.wb_store.specs.invariants.Marks.{first_marked}
 use Rattle.wb_store.specs.Records.{kind_entry}
 use Rattle.wb_validity.proofs.Breaches.{least_begins}
 use Rattle.wb_validity.proofs.LinkLemmas.{twice_marked, knows}

@@ -11,12 +11,12 @@ use Rattle.wb_ecore.specs.declared.features.Feature.{Feature}
 use Rattle.wb_store.specs.declared.records.Record.{Record}
 use Rattle.wb_store.specs.declared.records.Slot.{Slot}
 use Rattle.wb_store.specs.Contents.{Contents, has_object, slot}
-use Rattle.wb_store.specs.Links.{Kept}
+use Rattle.wb_store.specs.invariants.Links.{Kept}
 use Rattle.wb_store.specs.Places.{rises, numbered}
 use Rattle.wb_store.specs.Records.{id_of, feature_of, values_in}
 use Rattle.wb_store.proofs.Maps.{slot-numbered}
 use Rattle.wb_store.proofs.Members.{In-all}
-use Rattle.wb_validity.specs.LinkSets.{has_opposite, has_link, slot_has, record_has, KnowsLinks}
+use Rattle.wb_validity.specs.invariants.LinkSets.{has_opposite, has_link, slot_has, record_has, KnowsLinks}
 use Rattle.wb_validity.specs.Valid.{holds_back}
 use Rattle.wb_validity.proofs.LinkLemmas.{numbered_sound}
 

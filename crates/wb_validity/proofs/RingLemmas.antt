@@ -15,9 +15,9 @@ use Rattle.wb_store.specs.Contents.{Contents, contains, kind}
 use Rattle.wb_validity.specs.Valid.{AreContainedOnce, Within}
 use Rattle.wb_validity.specs.Valid.Within.{directly, through}
 use Rattle.wb_validity.specs.ValidTest.{is_within}
-use Rattle.wb_store.specs.Links.{Kept, KnowsHolders}
-use Rattle.wb_validity.specs.Rings.{IsContainerPlace, Above, IsAbove, IsFarAbove, beyond, is_place, with_met, AreMet}
-use Rattle.wb_validity.specs.Rings.Above.{itself, upwards}
+use Rattle.wb_store.specs.invariants.Links.{Kept, KnowsHolders}
+use Rattle.wb_validity.specs.invariants.Rings.{IsContainerPlace, Above, IsAbove, IsFarAbove, beyond, is_place, with_met, AreMet}
+use Rattle.wb_validity.specs.invariants.Rings.Above.{itself, upwards}
 use Rattle.wb_store.specs.Places.{IsPlaceOf}
 use Rattle.wb_store.specs.Records.{id_of, kind_entry}
 use Rattle.wb_validity.proofs.Climbing.{element_at, within_under}

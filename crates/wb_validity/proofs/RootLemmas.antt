@@ -15,9 +15,9 @@ use Rattle.wb_store.specs.Contents.{Contents, contains, kind}
 use Rattle.wb_store.specs.Places.{rises, IsPlaceOf, once}
 use Rattle.wb_store.specs.Records.{id_of}
 use Rattle.wb_validity.specs.Valid.{RootsAreUncontained}
-use Rattle.wb_store.specs.Links.{Kept, KnowsHolders}
-use Rattle.wb_validity.specs.Roots.{TakesRoot, IsNoRoot, AllSeen, IsUnseen}
-use Rattle.wb_validity.specs.Roots.IsNoRoot.{dead, contained, again}
+use Rattle.wb_store.specs.invariants.Links.{Kept, KnowsHolders}
+use Rattle.wb_validity.specs.invariants.Roots.{TakesRoot, IsNoRoot, AllSeen, IsUnseen}
+use Rattle.wb_validity.specs.invariants.Roots.IsNoRoot.{dead, contained, again}
 use Rattle.wb_store.proofs.Found.{is_itself}
 use Rattle.wb_store.proofs.Members.{In, any_In, In-append_left, In-append_right, In-append_cases, In-Contains, not_both}
 use Rattle.wb_store.proofs.Members.In.{here, there}

@@ -104,7 +104,7 @@ live_if_conforms m c p h =
       | Some d ↦ λ h. refl
     ] h
 
-live_if_of_kind : (m : Contents) (k : Kind) (p : ℕ) → is_of_kind m k (Object p) ≡ true → IsSome (kind m p)
+pub live_if_of_kind : (m : Contents) (k : Kind) (p : ℕ) → is_of_kind m k (Object p) ≡ true → IsSome (kind m p)
 live_if_of_kind m IntKind p h = absurd (false≢true h)
 live_if_of_kind m BoolKind p h = absurd (false≢true h)
 live_if_of_kind m TextKind p h = absurd (false≢true h)

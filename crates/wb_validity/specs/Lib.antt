@@ -1,8 +1,7 @@
 pub mod Broken
 pub mod Conditions
 pub mod Flaws
-pub mod LinkSets
-pub mod Rings
-pub mod Roots
+pub mod Ranges
 pub mod Valid
 pub mod ValidTest
+pub mod invariants

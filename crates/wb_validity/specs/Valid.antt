@@ -2,6 +2,7 @@
 use Rattle.std.specs.Prelude.{◌≡◌, ℕ, ◌^◌, ◌≤◌, Bool, true, false, not, ◌&&◌, nat_eq, nat_lt, nat_le, if◌then◌else◌, IsSome, List, [], ◌∷◌, length}
 use Rattle.std.specs.Option.{option_map_or}
 use Rattle.std.specs.List.{list_any, list_all}
+use Rattle.std.specs.Str.{is_utf8}
 use Rattle.std.specs.FinMap.{entries, len}
 use Rattle.wb_metamodel.specs.Metamodel.{Metamodel, conforms, features_of, feature_at, class_at, literals_of}
 use Rattle.wb_ecore.specs.declared.classes.Class.{Class}
@@ -10,7 +11,7 @@ use Rattle.wb_ecore.specs.declared.features.Kind.{Kind}
 use Rattle.wb_ecore.specs.declared.features.Kind.TheVariants.{Int as IntKind, Bool as BoolKind, Text as TextKind, Enum, Reference}
 use Rattle.wb_store.specs.declared.scalars.Scalar.{Scalar}
 use Rattle.wb_store.specs.declared.scalars.Scalar.TheVariants.{Int, Bool as Boolean, Text, Literal, Object}
-use Rattle.wb_store.specs.Scalars.{same}
+use Rattle.wb_store.specs.Scalars.{same, is_int64}
 use Rattle.wb_store.specs.Contents.{Contents, Filled, members, kind, slot, has_object, contains}
 use Rattle.wb_store.specs.Features.{is_many, opposite}
 use Rattle.wb_store.specs.Places.{once}
@@ -27,9 +28,9 @@ every_slot m passes = list_all (λ (e : (ℕ × ℕ) × Filled). passes e.0.0 e.
 abbrev pub numbers_are_spent : Contents → Bool
 numbers_are_spent m = nat_lt 0 m.next && nat_lt m.next (2 ^ 32) && every_object m (λ o c. nat_lt 0 o && nat_lt o m.next)
 
--- 2. No object's class is abstract.
+-- 2. No object's class is abstract; a number of no class counts as abstract.
 abbrev pub is_abstract : Metamodel → ℕ → Bool
-is_abstract metamodel c = option_map_or (λ (class : Class). class.is_abstract) (class_at metamodel c) false
+is_abstract metamodel c = option_map_or (λ (class : Class). class.is_abstract) (class_at metamodel c) true
 
 abbrev pub classes_are_concrete : Contents → Bool
 classes_are_concrete m = every_object m (λ o c. not (is_abstract m.metamodel c))
@@ -51,9 +52,10 @@ room metamodel f = if is_many metamodel f then 20000 else 1
 abbrev pub slots_have_room : Contents → Bool
 slots_have_room m = every_slot m (λ o f values. nat_le (length values) (room m.metamodel f))
 
--- 5. Every value is of its feature's kind. A referenced object is live, and conforms to the target class.
+-- 5. Every value is of its feature's kind: an integer has 64 signed bits, a text is UTF-8 of at most 65,536 bytes.
+-- A referenced object is live, and conforms to the target class.
 abbrev pub is_integer : Scalar → Bool
-is_integer (Int n) = true
+is_integer (Int n) = is_int64 n
 is_integer _ = false
 
 abbrev pub is_boolean : Scalar → Bool
@@ -61,7 +63,7 @@ is_boolean (Boolean b) = true
 is_boolean _ = false
 
 abbrev pub is_text : Scalar → Bool
-is_text (Text bytes) = nat_le (length bytes) 65536
+is_text (Text bytes) = is_utf8 bytes && nat_le (length bytes) 65536
 is_text _ = false
 
 abbrev pub is_literal : Metamodel → ℕ → Scalar → Bool

@@ -1,7 +1,7 @@
 ghost use Rattle.wb_validity.specs.Broken.{shown_by, unless, broken, broken_number, broken_first, broken_values, broken_holding, broken_containment};
 ghost use Rattle.wb_validity.specs.Flaws.{Finds};
-ghost use Rattle.wb_validity.specs.LinkSets.{KnowsLinks};
-ghost use Rattle.wb_store.specs.Links.{Kept, KnowsHolders};
+ghost use Rattle.wb_validity.specs.invariants.LinkSets.{KnowsLinks};
+ghost use Rattle.wb_store.specs.invariants.Links.{Kept, KnowsHolders};
 
 use crate::conditions::{
     Condition, abstract_object, breaking_object, crowded_object, misnumbered_object,

@@ -4,7 +4,7 @@ ghost use Rattle.wb_metamodel.specs.WellFormed.{KindIsKnown};
 ghost use Rattle.wb_validity.specs.Broken.{least, breaks, is_crowded, is_misnumbered};
 ghost use Rattle.wb_store.specs.Contents.{members};
 ghost use Rattle.wb_validity.specs.Conditions.{meets};
-ghost use Rattle.wb_validity.specs.LinkSets.{KnowsLinks};
+ghost use Rattle.wb_validity.specs.invariants.LinkSets.{KnowsLinks};
 ghost use Rattle.wb_store.specs.Records.{is_known_slot, slot_entries, slot_entry};
 ghost use Rattle.wb_store.specs.Features.{opposite};
 ghost use Rattle.wb_validity.specs.Valid.{is_abstract, is_of_class, room, is_of_kind, is_integer, is_boolean, is_text, is_literal, is_instance, conforms_to, is_of_feature, differ, holds_back, is_held_back};
@@ -186,7 +186,13 @@ fn is_of_kind(store: &Store, kind: Kind, value: &Scalar) -> bool
 fn is_integer(value: &Scalar) -> bool
     ensures { result ≡ is_integer value.now }
 {
-    matches!(value, Scalar::Int(_))
+    match value {
+        Scalar::Int(number) => {
+            let _width = *number;
+            true
+        }
+        _ => false,
+    }
 }
 
 fn is_boolean(value: &Scalar) -> bool

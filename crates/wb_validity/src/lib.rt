@@ -13,5 +13,5 @@ mod walks;
 pub use checks::check_all;
 pub use conditions::{is_of_class, is_of_feature, room};
 pub use flaws::Flaw;
-pub use validity::validity_is_decided;
+pub use validity::{contents_are_in_range, trees_are_in_order, validity_is_decided};
 pub use walks::tree;

@@ -3,7 +3,7 @@ ghost use Rattle.std.specs.List.{list_all, list_any};
 ghost use Rattle.wb_store.specs.Contents.{has_object};
 ghost use Rattle.wb_store.specs.Records.{is_known_slot};
 ghost use Rattle.wb_store.specs.Scalars.{same};
-ghost use Rattle.wb_validity.specs.LinkSets.{has_opposite, has_link, slot_has, KnowsLinks};
+ghost use Rattle.wb_validity.specs.invariants.LinkSets.{has_opposite, has_link, slot_has, KnowsLinks};
 
 use indexmap::IndexSet;
 use std::alloc::{AllocError, Global};

@@ -1,8 +1,8 @@
 ghost use Rattle.std.specs.Prelude.{◌≡◌, ◌<◌, false, IfOk, All, length, map};
 ghost use Rattle.std.specs.List.{HoldsAt};
 ghost use Rattle.wb_validity.specs.Broken.{least};
-ghost use Rattle.wb_validity.specs.Rings.{IsContainerPlace, IsAbove, IsFarAbove, beyond, with_met, AreMet};
-ghost use Rattle.wb_store.specs.Links.{Kept, KnowsHolders};
+ghost use Rattle.wb_validity.specs.invariants.Rings.{IsContainerPlace, IsAbove, IsFarAbove, beyond, with_met, AreMet};
+ghost use Rattle.wb_store.specs.invariants.Links.{Kept, KnowsHolders};
 ghost use Rattle.wb_validity.specs.ValidTest.{is_within};
 
 use std::alloc::{AllocError, Global};

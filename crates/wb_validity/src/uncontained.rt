@@ -1,9 +1,9 @@
 ghost use Rattle.std.specs.Prelude.{◌≡◌, ◌↔◌, true, false, IfOk, IsTrue, All, length};
 ghost use Rattle.std.specs.Bool.{OnTrue, OnFalse};
-ghost use Rattle.wb_store.specs.Links.{Kept, KnowsHolders};
+ghost use Rattle.wb_store.specs.invariants.Links.{Kept, KnowsHolders};
 ghost use Rattle.wb_store.specs.Places.{rises};
 ghost use Rattle.wb_store.specs.Records.{id_of};
-ghost use Rattle.wb_validity.specs.Roots.{TakesRoot, IsNoRoot, AllSeen, IsUnseen};
+ghost use Rattle.wb_validity.specs.invariants.Roots.{TakesRoot, IsNoRoot, AllSeen, IsUnseen};
 ghost use Rattle.wb_validity.specs.Valid.{RootsAreUncontained};
 
 use std::alloc::{AllocError, Global};

@@ -5,7 +5,7 @@ use Rattle.std.proofs.lemmas.List.Elements.{AllZip-push}
 use Rattle.std.specs.List.{AllZip, list_all}
 use Rattle.wb_store.specs.declared.parts.Part.{Part}
 use Rattle.wb_store.specs.declared.records.Record.{Record}
-use Rattle.wb_store.specs.Arranged.{IsArranged}
+use Rattle.wb_store.specs.invariants.Arranged.{IsArranged}
 use Rattle.wb_store.specs.Parts.{record_of}
 use Rattle.wb_store.specs.Records.{feature_of}
 use Rattle.wb_store.specs.Places.{once}

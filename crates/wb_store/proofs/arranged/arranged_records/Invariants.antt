@@ -2,7 +2,7 @@ use Rattle.std.proofs.Common.{◌≡◌, map, true}
 use Rattle.std.specs.List.{AllZip, list_all}
 use Rattle.std.specs.Vec.Iter.{into_iter_items}
 use Rattle.wb_store.specs.declared.records.Record.{Record}
-use Rattle.wb_store.specs.Arranged.{IsArranged}
+use Rattle.wb_store.specs.invariants.Arranged.{IsArranged}
 use Rattle.wb_store.specs.Parts.{record_of}
 use Rattle.wb_store.specs.Records.{feature_of}
 use Rattle.wb_store.specs.Places.{once}

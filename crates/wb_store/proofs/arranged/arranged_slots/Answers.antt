@@ -2,7 +2,7 @@ use Rattle.std.proofs.Common.{sym, subst, map, List, rules}
 use Rattle.std.proofs.lemmas.List.Sorted.{IsNonDecreasingBy-from_sort, answers_always}
 use Rattle.std.specs.List.Sorted.{IsPermutation}
 use Rattle.wb_store.specs.declared.records.Slot.{Slot}
-use Rattle.wb_store.specs.Arranged.{AreArranged}
+use Rattle.wb_store.specs.invariants.Arranged.{AreArranged}
 use Rattle.wb_store.specs.Parts.{slot_of}
 use Rattle.wb_store.specs.Records.{feature_of}
 use Rattle.wb_store.proofs.Members.{rises_sorted}

@@ -1,5 +1,5 @@
 use Rattle.std.proofs.Common.{take}
-use Rattle.wb_store.specs.Links.{AreHolders}
+use Rattle.wb_store.specs.invariants.Links.{AreHolders}
 use Rattle.wb_store.proofs.holding.holders.Given as goal
 
 abbrev pub invariant-loop-link : goal.invariant-loop-link

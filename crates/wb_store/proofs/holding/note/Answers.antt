@@ -1,7 +1,7 @@
 use Rattle.std.proofs.Common.{◌<◌, Some, sym, ap, ◌∙◌, length, arith, refl}
 use Rattle.std.proofs.lemmas.Bool.{false≢true}
 use Rattle.std.proofs.lemmas.Option.{slice_get_read}
-use Rattle.wb_store.specs.Links.Notes.{dead, fresh, again, clash}
+use Rattle.wb_store.specs.invariants.Links.Notes.{dead, fresh, again, clash}
 use Rattle.wb_store.proofs.holding.note.Goals as goal
 
 pub returns-in-None : goal.returns-in-None

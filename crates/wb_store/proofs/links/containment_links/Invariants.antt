@@ -1,5 +1,5 @@
 use Rattle.std.proofs.Common.{◌≡◌, ◌++◌, drop}
-use Rattle.wb_store.specs.Links.{links_of}
+use Rattle.wb_store.specs.invariants.Links.{links_of}
 use Rattle.wb_store.proofs.links.containment_links.Given as goal
 
 abbrev pub invariant-loop-record : goal.invariant-loop-record

@@ -1,7 +1,7 @@
 use Rattle.std.proofs.Common.{◌++◌, ◌+◌, drop, ap, sym, ◌∙◌, append_assoc, List}
 use Rattle.std.specs.List.{flat_map}
 use Rattle.wb_store.specs.declared.containment.Link.{Link}
-use Rattle.wb_store.specs.Links.{slot_links}
+use Rattle.wb_store.specs.invariants.Links.{slot_links}
 use Rattle.wb_store.proofs.Steps.{flat_map_more}
 use Rattle.wb_store.proofs.links.push_slots.Goals as goal
 

@@ -1,6 +1,6 @@
 use Rattle.std.proofs.Common.{◌≡◌, ◌++◌, drop}
 use Rattle.std.specs.List.{flat_map}
-use Rattle.wb_store.specs.Links.{slot_links}
+use Rattle.wb_store.specs.invariants.Links.{slot_links}
 use Rattle.wb_store.proofs.links.push_slots.Given as goal
 
 abbrev pub invariant-loop-slot : goal.invariant-loop-slot

@@ -1,6 +1,6 @@
 use Rattle.std.proofs.Common.{◌≡◌, ◌++◌, drop}
 use Rattle.std.specs.List.{flat_map}
-use Rattle.wb_store.specs.Links.{link}
+use Rattle.wb_store.specs.invariants.Links.{link}
 use Rattle.wb_store.proofs.links.push_values.Given as goal
 
 abbrev pub invariant-loop-value : goal.invariant-loop-value

@@ -1,5 +1,5 @@
 use Rattle.std.proofs.Common.{◌≡◌, drop}
-use Rattle.wb_store.specs.Marks.{first_marked}
+use Rattle.wb_store.specs.invariants.Marks.{first_marked}
 use Rattle.wb_store.proofs.marks.first_marked.Given as goal
 
 abbrev pub invariant-loop-i : goal.invariant-loop-i

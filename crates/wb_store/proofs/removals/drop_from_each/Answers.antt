@@ -1,6 +1,6 @@
 use Rattle.std.proofs.Common.{◌<◌, ◌∙◌, arith, length, set}
 use Rattle.std.proofs.lemmas.List.Edits.{map_over_more}
-use Rattle.wb_store.specs.Removals.{slot_left}
+use Rattle.wb_store.specs.invariants.Removals.{slot_left}
 use Rattle.wb_store.proofs.removals.drop_from_each.Goals as goal
 
 pub loop-i-preserved : goal.loop-i-preserved

@@ -1,7 +1,7 @@
 use Rattle.std.proofs.Common.{◌∙◌, refl, sym, subst, List}
 use Rattle.wb_store.specs.declared.records.Slot.{Slot}
 use Rattle.wb_store.specs.Records.{feature_of, values_in}
-use Rattle.wb_store.specs.Slots.{IsGapFor, SlotsChange}
+use Rattle.wb_store.specs.invariants.Slots.{IsGapFor, SlotsChange}
 use Rattle.wb_store.proofs.SlotLemmas.{change_is, change_insert, none_in_gap}
 use Rattle.wb_store.proofs.slots.made_place.Goals as goal
 

@@ -1,7 +1,7 @@
 use Rattle.std.proofs.Common.{subst, rules}
 use Rattle.std.proofs.lemmas.List.Sorted.{answers_always}
 use Rattle.wb_store.specs.Records.{feature_of}
-use Rattle.wb_store.specs.Slots.{IsPlaceOrGap}
+use Rattle.wb_store.specs.invariants.Slots.{IsPlaceOrGap}
 use Rattle.wb_store.proofs.Placed.{place_or_gap}
 use Rattle.wb_store.proofs.slots.place_or_gap.Goals as goal
 

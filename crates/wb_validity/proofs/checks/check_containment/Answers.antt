@@ -4,8 +4,8 @@ use Rattle.wb_metamodel.specs.Metamodel.{Metamodel}
 use Rattle.wb_store.specs.declared.containment.Link.{Link}
 use Rattle.wb_validity.specs.Broken.{shown_by, broken_containment}
 use Rattle.wb_validity.specs.Flaws.{Finds}
-use Rattle.wb_store.specs.Links.{Kept, AreHolders, KnowsHolders, links_of}
-use Rattle.wb_store.specs.Marks.{first_marked}
+use Rattle.wb_store.specs.invariants.Links.{Kept, AreHolders, KnowsHolders, links_of}
+use Rattle.wb_store.specs.invariants.Marks.{first_marked}
 use Rattle.wb_validity.proofs.Findings.{raised, passed_on, nothing_shown}
 use Rattle.wb_validity.proofs.Marked.{twice_least, knows_holders}
 use Rattle.wb_validity.proofs.checks.check_containment.Goals as goal

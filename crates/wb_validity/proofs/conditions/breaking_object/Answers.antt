@@ -1,6 +1,6 @@
 use Rattle.std.proofs.Common.{ap, sym, ◌∙◌, not, ℕ}
 use Rattle.wb_validity.specs.Broken.{breaks}
-use Rattle.wb_store.specs.Links.{Kept}
+use Rattle.wb_store.specs.invariants.Links.{Kept}
 use Rattle.wb_validity.proofs.Breaches.{slots_meet_kept, least_begins, least_in, least_here, least_later}
 use Rattle.wb_validity.proofs.conditions.breaking_object.Goals as goal
 

@@ -2,7 +2,7 @@ use Rattle.std.proofs.Common.{ap, sym, refl, ◌∙◌, not, ◌||◌, eqb, ℕ}
 use Rattle.std.specs.List.{list_any}
 use Rattle.wb_validity.specs.declared.conditions.Condition.TheVariants.{HasRoom}
 use Rattle.wb_validity.specs.Broken.{is_crowded}
-use Rattle.wb_store.specs.Links.{Kept}
+use Rattle.wb_store.specs.invariants.Links.{Kept}
 use Rattle.wb_validity.proofs.Breaches.{slots_meet_kept, least_begins, least_in, least_here, least_later}
 use Rattle.wb_validity.proofs.conditions.crowded_object.Goals as goal
 

@@ -1,7 +1,7 @@
 use Rattle.std.proofs.Common.{◌∙◌, ◌+◌, ◌&&◌, ◌||◌, ap, sym, drop, eqb}
 use Rattle.std.specs.List.{list_any}
 use Rattle.wb_store.proofs.Steps.{drop_more}
-use Rattle.wb_validity.specs.LinkSets.{has_link, slot_has}
+use Rattle.wb_validity.specs.invariants.LinkSets.{has_link, slot_has}
 use Rattle.wb_validity.proofs.Opposed.{or_more_of}
 use Rattle.wb_validity.proofs.link_set.insert_slots.Goals as goal
 

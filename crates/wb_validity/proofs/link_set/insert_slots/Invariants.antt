@@ -1,6 +1,6 @@
 use Rattle.std.proofs.Common.{◌≡◌, ◌&&◌, ◌||◌, ℕ, drop, eqb}
 use Rattle.std.specs.List.{list_any}
-use Rattle.wb_validity.specs.LinkSets.{has_link, slot_has}
+use Rattle.wb_validity.specs.invariants.LinkSets.{has_link, slot_has}
 use Rattle.wb_validity.proofs.link_set.insert_slots.Given as goal
 
 abbrev pub invariant-loop-slot : goal.invariant-loop-slot

@@ -3,7 +3,7 @@ use Rattle.wb_store.specs.Contents.{has_object}
 use Rattle.wb_store.specs.Scalars.{same}
 use Rattle.wb_store.specs.declared.scalars.Scalar.TheVariants.{Object}
 use Rattle.wb_store.proofs.Steps.{drop_more}
-use Rattle.wb_validity.specs.LinkSets.{has_link}
+use Rattle.wb_validity.specs.invariants.LinkSets.{has_link}
 use Rattle.wb_validity.proofs.Opposed.{or_more_in}
 use Rattle.wb_validity.proofs.link_set.insert_values.Goals as goal
 

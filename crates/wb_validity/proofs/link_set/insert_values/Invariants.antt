@@ -1,6 +1,6 @@
 use Rattle.std.proofs.Common.{◌≡◌, ◌&&◌, ◌||◌, ℕ, drop, eqb}
 use Rattle.wb_store.specs.Contents.{has_object}
-use Rattle.wb_validity.specs.LinkSets.{has_link}
+use Rattle.wb_validity.specs.invariants.LinkSets.{has_link}
 use Rattle.wb_validity.proofs.link_set.insert_values.Given as goal
 
 abbrev pub invariant-loop-value : goal.invariant-loop-value

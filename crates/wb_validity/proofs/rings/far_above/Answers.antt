@@ -1,5 +1,5 @@
 use Rattle.std.proofs.Common.{List, Option, ℕ, ◌∙◌, ap, map, arith}
-use Rattle.wb_validity.specs.Rings.{beyond}
+use Rattle.wb_validity.specs.invariants.Rings.{beyond}
 use Rattle.wb_validity.proofs.LinkLemmas.{contained_once}
 use Rattle.wb_validity.proofs.RingLemmas.{far_twice}
 use Rattle.wb_validity.proofs.rings.far_above.Goals as goal

@@ -1,5 +1,5 @@
 use Rattle.std.proofs.Common.{◌<◌, ◌-◌, length}
-use Rattle.wb_validity.specs.Rings.{IsFarAbove}
+use Rattle.wb_validity.specs.invariants.Rings.{IsFarAbove}
 use Rattle.wb_validity.proofs.rings.far_above.Given as goal
 
 abbrev pub invariant-loop-steps : goal.invariant-loop-steps

@@ -1,6 +1,6 @@
 use Rattle.std.proofs.Common.{◌∙◌, ap, subst, List, ℕ, Option}
-use Rattle.wb_store.specs.Marks.{first_marked}
-use Rattle.wb_validity.specs.Rings.{AreMet}
+use Rattle.wb_store.specs.invariants.Marks.{first_marked}
+use Rattle.wb_validity.specs.invariants.Rings.{AreMet}
 use Rattle.wb_validity.specs.ValidTest.{is_within}
 use Rattle.wb_validity.proofs.LinkLemmas.{contained_once}
 use Rattle.wb_validity.proofs.Marked.{marked_least}

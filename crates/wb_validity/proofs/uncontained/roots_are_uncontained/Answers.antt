@@ -1,6 +1,6 @@
 use Rattle.std.proofs.Common.{◌≡◌, ◌<◌, ◌≤◌, sym, ℕ, List, Bool, subst, length, get_or, take}
 use Rattle.std.proofs.lemmas.Bool.{false≢true}
-use Rattle.wb_validity.specs.Roots.{AllSeen, IsUnseen}
+use Rattle.wb_validity.specs.invariants.Roots.{AllSeen, IsUnseen}
 use Rattle.wb_validity.specs.Valid.{RootsAreUncontained}
 use Rattle.wb_validity.proofs.RootLemmas.{Seen, refused, rooted_all, unseen_one, decided, seen_next}
 use Rattle.wb_validity.proofs.uncontained.roots_are_uncontained.Goals as goal

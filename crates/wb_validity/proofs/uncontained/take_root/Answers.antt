@@ -1,6 +1,6 @@
 use Rattle.std.proofs.Common.{◌<◌, ◌∙◌, ap, length, Some, refl, arith}
 use Rattle.std.proofs.lemmas.Option.{slice_get_read, slice_get-get_or}
-use Rattle.wb_validity.specs.Roots.IsNoRoot.{contained, again}
+use Rattle.wb_validity.specs.invariants.Roots.IsNoRoot.{contained, again}
 use Rattle.wb_validity.proofs.uncontained.take_root.Goals as goal
 
 pub returns-then-index-clause-refused : goal.returns-then-index-clause-refused

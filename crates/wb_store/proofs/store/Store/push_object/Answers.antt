@@ -1,7 +1,8 @@
 use Rattle.std.proofs.Common.{◌≡◌, ℕ, ◌+◌, ◌<◌, sym, subst, arith, length, suc, List}
 use Rattle.wb_store.specs.declared.records.Record.{Record}
 use Rattle.wb_store.specs.Contents.{Contents}
-use Rattle.wb_store.specs.Records.{contents_of, IsPlain, is_known_slot}
+use Rattle.wb_store.specs.Records.{contents_of, is_known_slot}
+use Rattle.wb_store.specs.invariants.Plain.{IsPlain}
 use Rattle.std.specs.List.{list_all}
 use Rattle.wb_store.proofs.Growing.{grown_plain, grown, grows_is, fresh_inside}
 use Rattle.wb_store.proofs.store.Store.push_object.Goals as goal

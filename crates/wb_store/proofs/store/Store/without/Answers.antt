@@ -1,7 +1,8 @@
 use Rattle.std.proofs.Common.{◌∙◌, ap, sym, subst, map, List}
 use Rattle.wb_store.specs.declared.records.Record.{Record}
-use Rattle.wb_store.specs.Records.{contents_of, IsPlain}
-use Rattle.wb_store.specs.Removals.{record_left}
+use Rattle.wb_store.specs.Records.{contents_of}
+use Rattle.wb_store.specs.invariants.Plain.{IsPlain}
+use Rattle.wb_store.specs.invariants.Removals.{record_left}
 use Rattle.wb_store.specs.Relinking.{without}
 use Rattle.wb_store.proofs.Removing.{left_plain, left_shown}
 use Rattle.wb_store.proofs.store.Store.without.Goals as goal

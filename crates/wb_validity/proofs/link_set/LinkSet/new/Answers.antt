@@ -1,8 +1,8 @@
 use Rattle.std.proofs.Common.{◌∙◌, ◌||◌, ap, sym}
 use Rattle.std.proofs.lemmas.List.{drop_all}
 use Rattle.std.specs.List.{list_any}
-use Rattle.wb_store.specs.Links.{Kept}
-use Rattle.wb_validity.specs.LinkSets.{has_link, record_has}
+use Rattle.wb_store.specs.invariants.Links.{Kept}
+use Rattle.wb_validity.specs.invariants.LinkSets.{has_link, record_has}
 use Rattle.wb_validity.proofs.Opposed.{or_none, knows_links}
 use Rattle.wb_validity.proofs.link_set.LinkSet.new.Goals as goal
 

@@ -1,6 +1,6 @@
 use Rattle.std.proofs.Common.{◌≡◌, ◌||◌, ℕ, drop}
 use Rattle.std.specs.List.{list_any}
-use Rattle.wb_validity.specs.LinkSets.{has_link, record_has}
+use Rattle.wb_validity.specs.invariants.LinkSets.{has_link, record_has}
 use Rattle.wb_validity.proofs.link_set.LinkSet.new.Given as goal
 
 abbrev pub invariant-loop-record : goal.invariant-loop-record

@@ -1,5 +1,0 @@
-use Rattle.wb_model.proofs.EditLaws.{opposites-kept}
-use Rattle.wb_model.proofs.edit_laws.edits_keep_opposites.Goals as goal
-
-pub returns : goal.returns
-returns c = opposites-kept

@@ -1,5 +1,0 @@
-use Rattle.wb_model.proofs.EditLaws.{order-kept}
-use Rattle.wb_model.proofs.edit_laws.edits_keep_the_order.Goals as goal
-
-pub returns : goal.returns
-returns c = order-kept
