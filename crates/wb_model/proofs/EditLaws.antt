@@ -9,12 +9,14 @@ use Rattle.wb_store.specs.declared.scalars.Scalar.TheVariants.{Object}
 use Rattle.wb_store.specs.declared.scalars.Place.{Place}
 use Rattle.wb_store.specs.declared.scalars.Place.TheVariants.{Root, In as Inside}
 use Rattle.wb_model.specs.declared.refusals.ModelRefusal.TheVariants.{UnknownObject}
-use Rattle.wb_store.specs.Contents.{Contents, kind, slot, has_object}
+use Rattle.std.specs.Option.{option_map_or}
+use Rattle.std.specs.FinMap.{FinMap, get}
+use Rattle.wb_store.specs.Contents.{Contents, Filled, members, slot_cmp, kind, slot, has_object}
 use Rattle.wb_store.specs.Cells.{tree}
 use Rattle.wb_store.specs.Features.{opposite}
 use Rattle.wb_validity.specs.Valid.{Within, IsValid}
 use Rattle.wb_store.specs.Relinking.{Link, link, relink, both_ends, change, is_at, same_link, leads_to, is_among, is_value_among, touches, stands, gives_way, without_root}
-use Rattle.wb_model.specs.Edits.{is_live, link_up, unlink, emptied, moved, removed, created, with_object, refusal_of_link, refusal_of_take, refusal_of_unset, refusal_of_move, refusal_of_create, set, add, take_out, unset, move_to, remove}
+use Rattle.wb_model.specs.Edits.{is_live, place, link_up, unlink, emptied, moved, removed, created, with_object, refusal_of_link, refusal_of_take, refusal_of_unset, refusal_of_move, refusal_of_create, set, add, take_out, unset, move_to, remove}
 use Rattle.wb_model.specs.EditLaws.{IsEdited, AreEdited, KeepsOrder, NumbersAreFresh, GoesWith, IsNowhere}
 use Rattle.wb_model.specs.EditLaws.IsEdited.{by_set, by_add, by_take, by_unset, by_move, by_remove, by_create}
 use Rattle.wb_model.specs.EditLaws.AreEdited.{by_none, by_more}
@@ -48,39 +50,83 @@ kept m n well v (by_move o p f h) = kept_move m n o p f well v h
 kept m n well v (by_remove o h) = kept_remove m n o well v h
 kept m n well v (by_create class place h) = kept_create m n class place well v h
 
--- ---- the metamodel stays
+-- ---- numbers are fresh
 
-same_metamodel-if : (b : Bool) (m n : Contents) → n.metamodel ≡ m.metamodel → (cond b m n).metamodel ≡ m.metamodel
-same_metamodel-if true m n e = refl
-same_metamodel-if false m n e = e
+kind-cond : (b : Bool) (r s : Option ℕ) → IsSome (cond b r None) → IsSome r
+kind-cond true r s h = h
+kind-cond false r s h = absurd (false≢true h)
+
+not-some : (r : Option ℕ) → IsSome r → r ≡ None → ⊥
+not-some r h e = false≢true (subst IsSome e h)
+
+-- no object comes
+fresh-fewer : (m n : Contents) → n.next ≡ m.next → ((o : ℕ) → IsSome (kind n o) → IsSome (kind m o)) → NumbersAreFresh m n
+fresh-fewer m n next was = record {
+  never_falls = subst (λ k. m.next ≤ k) (sym next) (omega arith);
+  fresh = λ o live none. absurd (not-some (kind m o) (was o live) none);
+}
+
+fresh-grown : (m : Contents) (class : ℕ) (roots : List ℕ) → NumbersAreFresh m (with_object class roots m)
+fresh-grown m class roots = record {
+  never_falls = omega arith;
+  fresh = λ o live none. ⊎_elim (λ e. (e, refl)) (λ n. absurd (not-some (kind m o) (subst IsSome (kind-other m class roots o n) live) none)) (decide o m.next);
+}
+
+-- ---- what an accepted edit makes
+
+-- the same slots over the same metamodel, with at most one more object
+record IsBase (m w : Contents) : Type 0 where
+  pub metamodel : w.metamodel ≡ m.metamodel
+  pub slots : w.slots ≡ m.slots
+  pub fresh : NumbersAreFresh m w
+
+-- nothing new, links that leave, one link that comes, one more root, or fewer objects
+data IsMade (m : Contents) : Contents → Type 0 where
+  same_as : IsMade m m
+  fewer : (leaves : Link → Bool) → IsMade m (change leaves [] m)
+  linked : (w : Contents) → IsBase m w → (leaves : Link → Bool) (l : Link) → IsMade m (change leaves (l ∷ []) w)
+  rooted : (class : ℕ) → IsMade m (with_object class (m.roots ++ m.next ∷ []) m)
+  gone : (o : ℕ) → IsMade m (removed o m)
 
 module _ (m : Contents) where
-  metamodel-change : (leaves : Link → Bool) (comes : List Link) → (change leaves comes m).metamodel ≡ m.metamodel
-  metamodel-change leaves comes = metamodel-relink (λ l. list_any leaves (both_ends m.metamodel l)) (flat_map (both_ends m.metamodel) comes) m
+  made-if : (b : Bool) (n : Contents) → IsMade m n → IsMade m (cond b m n)
+  made-if true n h = same_as
+  made-if false n h = h
 
-  metamodel-linked : (l : Link) → (link_up l m).metamodel ≡ m.metamodel
-  metamodel-linked l = same_metamodel-if (stands m l) m (change (gives_way m.metamodel l) (l ∷ []) m) (metamodel-change (gives_way m.metamodel l) (l ∷ []))
+  made-linked : (l : Link) → IsMade m (link_up l m)
+  made-linked l =
+      made-if (stands m l) (change (gives_way m.metamodel l) (l ∷ []) m)
+      (linked m (record { metamodel = refl; slots = refl; fresh = fresh-fewer m m refl (λ o h. h) }) (gives_way m.metamodel l) l)
 
-  metamodel-created : (class : ℕ) (place : Place) → (created class place m).metamodel ≡ m.metamodel
-  metamodel-created class Root = refl
-  metamodel-created class (Inside p f) = metamodel-relink (λ l. list_any (leads_to m.metamodel m.next) (both_ends m.metamodel l)) (flat_map (both_ends m.metamodel) (link p f (Object m.next) ∷ [])) (with_object class m.roots m)
+  made-placed : (w : Contents) → IsBase m w → (o p f : ℕ) → IsMade m (place o p f w)
+  made-placed w b o p f = linked w b (leads_to w.metamodel o) (link p f (Object o))
 
-  metamodel-moved : (o p f : ℕ) → (moved o p f m).metamodel ≡ m.metamodel
-  metamodel-moved o p f =
-      same_metamodel-if (stands m (link p f (Object o))) m (change (leads_to m.metamodel o) (link p f (Object o) ∷ []) (without_root o m))
-      (metamodel-relink (λ l. list_any (leads_to m.metamodel o) (both_ends m.metamodel l)) (flat_map (both_ends m.metamodel) (link p f (Object o) ∷ [])) (without_root o m))
+  made : (n : Contents) → IsEdited m n → IsMade m n
+  made n (by_set o f v h) = subst (IsMade m) (accepted (refusal_of_link false m (link o f v)) (link_up (link o f v) m) n h).1 (made-linked (link o f v))
+  made n (by_add o f v h) = subst (IsMade m) (accepted (refusal_of_link true m (link o f v)) (link_up (link o f v) m) n h).1 (made-linked (link o f v))
+  made n (by_take o f v h) = subst (IsMade m) (accepted (refusal_of_take m (link o f v)) (unlink (link o f v) m) n h).1 (fewer (same_link (link o f v)))
+  made n (by_unset o f h) = subst (IsMade m) (accepted (refusal_of_unset m o f) (emptied o f m) n h).1 (fewer (is_at o f))
+  made n (by_move o p f h) =
+      subst (IsMade m) (accepted (refusal_of_move m o p f) (moved o p f m) n h).1
+      (made-if (stands m (link p f (Object o))) (place o p f (without_root o m))
+      (made-placed (without_root o m) (record { metamodel = refl; slots = refl; fresh = fresh-fewer m (without_root o m) refl (λ x h. h) }) o p f))
+  made n (by_remove o h) = subst (IsMade m) (accepted (cond (is_live m o) None (Some UnknownObject)) (removed o m) n h).1 (gone o)
+  made n (by_create class Root h) = subst (IsMade m) (accepted (refusal_of_create m class Root) (created class Root m) n h).1 (rooted class)
+  made n (by_create class (Inside p f) h) =
+      subst (IsMade m) (accepted (refusal_of_create m class (Inside p f)) (created class (Inside p f) m) n h).1
+      (made-placed (with_object class m.roots m) (record { metamodel = refl; slots = refl; fresh = fresh-grown m class m.roots }) m.next p f)
 
-  metamodel-removed : (o : ℕ) → (removed o m).metamodel ≡ m.metamodel
-  metamodel-removed o = metamodel-relink (touches (o ∷ tree m o)) [] m
+-- ---- the metamodel stays
+
+made-metamodel : (m n : Contents) → IsMade m n → n.metamodel ≡ m.metamodel
+made-metamodel m n same_as = refl
+made-metamodel m n (fewer leaves) = metamodel-relink (λ l. list_any leaves (both_ends m.metamodel l)) [] m
+made-metamodel m n (linked w b leaves l) = metamodel-relink (λ l. list_any leaves (both_ends w.metamodel l)) (flat_map (both_ends w.metamodel) (l ∷ [])) w ∙ b.metamodel
+made-metamodel m n (rooted class) = refl
+made-metamodel m n (gone o) = metamodel-relink (touches (o ∷ tree m o)) [] m
 
 pub same_metamodel : (m n : Contents) → IsEdited m n → n.metamodel ≡ m.metamodel
-same_metamodel m n (by_set o f v h) = let a = accepted (refusal_of_link false m (link o f v)) (link_up (link o f v) m) n h in ap (λ (k : Contents). k.metamodel) (sym a.1) ∙ metamodel-linked m (link o f v)
-same_metamodel m n (by_add o f v h) = let a = accepted (refusal_of_link true m (link o f v)) (link_up (link o f v) m) n h in ap (λ (k : Contents). k.metamodel) (sym a.1) ∙ metamodel-linked m (link o f v)
-same_metamodel m n (by_take o f v h) = let a = accepted (refusal_of_take m (link o f v)) (unlink (link o f v) m) n h in ap (λ (k : Contents). k.metamodel) (sym a.1) ∙ metamodel-change m (same_link (link o f v)) []
-same_metamodel m n (by_unset o f h) = let a = accepted (refusal_of_unset m o f) (emptied o f m) n h in ap (λ (k : Contents). k.metamodel) (sym a.1) ∙ metamodel-change m (is_at o f) []
-same_metamodel m n (by_move o p f h) = let a = accepted (refusal_of_move m o p f) (moved o p f m) n h in ap (λ (k : Contents). k.metamodel) (sym a.1) ∙ metamodel-moved m o p f
-same_metamodel m n (by_remove o h) = let a = accepted (cond (is_live m o) None (Some UnknownObject)) (removed o m) n h in ap (λ (k : Contents). k.metamodel) (sym a.1) ∙ metamodel-removed m o
-same_metamodel m n (by_create class place h) = let a = accepted (refusal_of_create m class place) (created class place m) n h in ap (λ (k : Contents). k.metamodel) (sym a.1) ∙ metamodel-created m class place
+same_metamodel m n e = made-metamodel m n (made m n e)
 
 -- ---- many edits
 
@@ -162,115 +208,30 @@ keeps-relink leaves comes m o f alone = record {
   is = slot-relink leaves comes m o f;
 }
 
-module _ (m : Contents) (well : WellFormed m.metamodel) (q g : ℕ) where
-  Keeps : Contents → Type 0
-  Keeps n = KeepsOrder (slot m q g) (slot n q g)
-
-  keeps-left : (leaves : Link → Bool) → Keeps (change leaves [] m)
-  unfolding Keeps
-  keeps-left leaves = keeps-relink (λ l. list_any leaves (both_ends m.metamodel l)) [] m q g (inl refl)
-
-  keeps-one : (leaves : Link → Bool) (l : Link) → Keeps (change leaves (l ∷ []) m)
-  unfolding Keeps
-  keeps-one leaves l = keeps-relink (λ k. list_any leaves (both_ends m.metamodel k)) (flat_map (both_ends m.metamodel) (l ∷ [])) m q g (alone-ends m.metamodel well l q g)
-
-  keeps-if : (b : Bool) (n : Contents) → Keeps n → Keeps (cond b m n)
-  unfolding Keeps
-  keeps-if true n k = keeps-all (slot m q g)
-  keeps-if false n k = k
-
-  keeps-linked : (l : Link) → Keeps (link_up l m)
-  keeps-linked l = keeps-if (stands m l) (change (gives_way m.metamodel l) (l ∷ []) m) (keeps-one (gives_way m.metamodel l) l)
-
-  keeps-created : (class : ℕ) (place : Place) → Keeps (created class place m)
-  unfolding Keeps
-  keeps-created class Root = keeps-all (slot m q g)
-  keeps-created class (Inside p f) =
-      let l : Link = link p f (Object m.next) in
-      keeps-relink (λ k. list_any (leads_to m.metamodel m.next) (both_ends m.metamodel k)) (flat_map (both_ends m.metamodel) (l ∷ [])) (with_object class m.roots m) q g (alone-ends m.metamodel well l q g)
-
-  keeps-moved : (o p f : ℕ) → Keeps (moved o p f m)
-  unfolding Keeps
-  keeps-moved o p f =
-      let l : Link = link p f (Object o) in
-      keeps-if (stands m l) (change (leads_to m.metamodel o) (l ∷ []) (without_root o m))
-      (keeps-relink (λ k. list_any (leads_to m.metamodel o) (both_ends m.metamodel k)) (flat_map (both_ends m.metamodel) (l ∷ [])) (without_root o m) q g (alone-ends m.metamodel well l q g))
-
-  keeps-removed : (o : ℕ) → Keeps (removed o m)
-  unfolding Keeps
-  keeps-removed o = keeps-relink (touches (o ∷ tree m o)) [] m q g (inl refl)
-
-  keeps : (n : Contents) → IsEdited m n → Keeps n
-  keeps n (by_set o f v h) = let l : Link = link o f v in subst Keeps (accepted (refusal_of_link false m l) (link_up l m) n h).1 (keeps-linked l)
-  keeps n (by_add o f v h) = let l : Link = link o f v in subst Keeps (accepted (refusal_of_link true m l) (link_up l m) n h).1 (keeps-linked l)
-  keeps n (by_take o f v h) = let l : Link = link o f v in subst Keeps (accepted (refusal_of_take m l) (unlink l m) n h).1 (keeps-left (same_link l))
-  keeps n (by_unset o f h) = subst Keeps (accepted (refusal_of_unset m o f) (emptied o f m) n h).1 (keeps-left (is_at o f))
-  keeps n (by_move o p f h) = subst Keeps (accepted (refusal_of_move m o p f) (moved o p f m) n h).1 (keeps-moved o p f)
-  keeps n (by_remove o h) = subst Keeps (accepted (cond (is_live m o) None (Some UnknownObject)) (removed o m) n h).1 (keeps-removed o)
-  keeps n (by_create class place h) = subst Keeps (accepted (refusal_of_create m class place) (created class place m) n h).1 (keeps-created class place)
+made-keeps : (m n : Contents) → WellFormed m.metamodel → (q g : ℕ) → IsMade m n → KeepsOrder (slot m q g) (slot n q g)
+made-keeps m n well q g same_as = keeps-all (slot m q g)
+made-keeps m n well q g (fewer leaves) = keeps-relink (λ l. list_any leaves (both_ends m.metamodel l)) [] m q g (inl refl)
+made-keeps m n well q g (linked w b leaves l) =
+    subst (λ (slots : FinMap slot_cmp Filled). KeepsOrder (option_map_or members (get slots (q, g)) []) (slot (change leaves (l ∷ []) w) q g)) b.slots
+    (keeps-relink (λ k. list_any leaves (both_ends w.metamodel k)) (flat_map (both_ends w.metamodel) (l ∷ [])) w q g (alone-ends w.metamodel (subst WellFormed (sym b.metamodel) well) l q g))
+made-keeps m n well q g (rooted class) = keeps-all (slot m q g)
+made-keeps m n well q g (gone o) = keeps-relink (touches (o ∷ tree m o)) [] m q g (inl refl)
 
 pub order-kept : (m n : Contents) → WellFormed m.metamodel → IsEdited m n → (o f : ℕ) → KeepsOrder (slot m o f) (slot n o f)
-unfolding Keeps
-order-kept m n well e o f = keeps m well o f n e
+order-kept m n well e o f = made-keeps m n well o f (made m n e)
 
--- ---- numbers are fresh
+-- ---- no number is given twice
 
-kind-cond : (b : Bool) (r s : Option ℕ) → IsSome (cond b r None) → IsSome r
-kind-cond true r s h = h
-kind-cond false r s h = absurd (false≢true h)
-
-not-some : (r : Option ℕ) → IsSome r → r ≡ None → ⊥
-not-some r h e = false≢true (subst IsSome e h)
-
-module _ (m : Contents) where
-  -- no object comes
-  fresh-fewer : (n : Contents) → n.next ≡ m.next → ((o : ℕ) → IsSome (kind n o) → IsSome (kind m o)) → NumbersAreFresh m n
-  fresh-fewer n next was = record {
-    never_falls = subst (λ k. m.next ≤ k) (sym next) (omega arith);
-    fresh = λ o live none. absurd (not-some (kind m o) (was o live) none);
-  }
-
-  fresh-change : (leaves : Link → Bool) (comes : List Link) → NumbersAreFresh m (change leaves comes m)
-  unfolding relink
-  fresh-change leaves comes = fresh-fewer (change leaves comes m) refl (λ o h. h)
-
-  fresh-if : (b : Bool) (n : Contents) → NumbersAreFresh m n → NumbersAreFresh m (cond b m n)
-  fresh-if true n h = fresh-fewer m refl (λ o h. h)
-  fresh-if false n h = h
-
-  fresh-linked : (l : Link) → NumbersAreFresh m (link_up l m)
-  fresh-linked l = fresh-if (stands m l) (change (gives_way m.metamodel l) (l ∷ []) m) (fresh-change (gives_way m.metamodel l) (l ∷ []))
-
-  fresh-moved : (o p f : ℕ) → NumbersAreFresh m (moved o p f m)
-  unfolding relink
-  fresh-moved o p f =
-      let l : Link = link p f (Object o) in
-      let n : Contents = change (leads_to m.metamodel o) (l ∷ []) (without_root o m) in
-      fresh-if (stands m l) n (fresh-fewer n refl (λ x h. h))
-
-  fresh-removed : (o : ℕ) → NumbersAreFresh m (removed o m)
-  unfolding relink
-  fresh-removed o = fresh-fewer (removed o m) refl (λ x h. kind-cond (not (is_among (o ∷ tree m o) x)) (kind m x) None (subst IsSome (kind-without m (o ∷ tree m o) x) h))
-
-  fresh-grown : (class : ℕ) (roots : List ℕ) → NumbersAreFresh m (with_object class roots m)
-  fresh-grown class roots = record {
-    never_falls = omega arith;
-    fresh = λ o live none. ⊎_elim (λ e. (e, refl)) (λ n. absurd (not-some (kind m o) (subst IsSome (kind-other m class roots o n) live) none)) (decide o m.next);
-  }
-
-  fresh-created : (class : ℕ) (place : Place) → NumbersAreFresh m (created class place m)
-  unfolding relink
-  fresh-created class Root = fresh-grown class (m.roots ++ m.next ∷ [])
-  fresh-created class (Inside p f) = let grown = fresh-grown class m.roots in record { never_falls = grown.never_falls; fresh = grown.fresh }
+made-fresh : (m n : Contents) → IsMade m n → NumbersAreFresh m n
+unfolding relink
+made-fresh m n same_as = fresh-fewer m m refl (λ o h. h)
+made-fresh m n (fewer leaves) = fresh-fewer m (change leaves [] m) refl (λ o h. h)
+made-fresh m n (linked w b leaves l) = record { never_falls = b.fresh.never_falls; fresh = b.fresh.fresh }
+made-fresh m n (rooted class) = fresh-grown m class (m.roots ++ m.next ∷ [])
+made-fresh m n (gone o) = fresh-fewer m (removed o m) refl (λ x h. kind-cond (not (is_among (o ∷ tree m o) x)) (kind m x) None (subst IsSome (kind-without m (o ∷ tree m o) x) h))
 
 pub numbers-fresh : (m n : Contents) → IsEdited m n → NumbersAreFresh m n
-numbers-fresh m n (by_set o f v h) = let l : Link = link o f v in subst (NumbersAreFresh m) (accepted (refusal_of_link false m l) (link_up l m) n h).1 (fresh-linked m l)
-numbers-fresh m n (by_add o f v h) = let l : Link = link o f v in subst (NumbersAreFresh m) (accepted (refusal_of_link true m l) (link_up l m) n h).1 (fresh-linked m l)
-numbers-fresh m n (by_take o f v h) = let l : Link = link o f v in subst (NumbersAreFresh m) (accepted (refusal_of_take m l) (unlink l m) n h).1 (fresh-change m (same_link l) [])
-numbers-fresh m n (by_unset o f h) = subst (NumbersAreFresh m) (accepted (refusal_of_unset m o f) (emptied o f m) n h).1 (fresh-change m (is_at o f) [])
-numbers-fresh m n (by_move o p f h) = subst (NumbersAreFresh m) (accepted (refusal_of_move m o p f) (moved o p f m) n h).1 (fresh-moved m o p f)
-numbers-fresh m n (by_remove o h) = subst (NumbersAreFresh m) (accepted (cond (is_live m o) None (Some UnknownObject)) (removed o m) n h).1 (fresh-removed m o)
-numbers-fresh m n (by_create class place h) = subst (NumbersAreFresh m) (accepted (refusal_of_create m class place) (created class place m) n h).1 (fresh-created m class place)
+numbers-fresh m n e = made-fresh m n (made m n e)
 
 none-of : (r : Option ℕ) → (IsSome r → ⊥) → r ≡ None
 none-of None f = refl

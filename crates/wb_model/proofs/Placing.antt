@@ -9,16 +9,17 @@ use Rattle.wb_ecore.specs.declared.features.Kind.TheVariants.{Int as IntKind, Bo
 use Rattle.wb_metamodel.specs.Metamodel.{Metamodel, conforms, feature_at}
 use Rattle.wb_metamodel.specs.WellFormed.{WellFormed}
 use Rattle.wb_store.specs.declared.scalars.Scalar.{Scalar}
-use Rattle.wb_store.specs.declared.scalars.Scalar.TheVariants.{Int, Bool as Boolean, Text, Literal, Object}
+use Rattle.wb_store.specs.declared.scalars.Scalar.TheVariants.{Object}
 use Rattle.wb_store.specs.Scalars.{same}
 use Rattle.wb_store.specs.ScalarLaws.{same_decides}
 use Rattle.wb_store.specs.Contents.{Contents, kind, slot, is_containment, contains}
 use Rattle.wb_store.specs.Features.{opposite}
-use Rattle.wb_validity.specs.Valid.{room, is_of_class, is_instance, is_of_kind, is_of_feature}
+use Rattle.wb_validity.specs.Valid.{room, is_of_class, is_of_kind, is_of_feature}
 use Rattle.wb_store.specs.Relinking.{Link, link, relink, both_ends, change, leads_to}
 use Rattle.wb_model.specs.Edits.{is_full, may_contain, refers_to, place}
+use Rattle.wb_model.proofs.Comings.{object_value}
 use Rattle.wb_model.proofs.Changed.{stay_at, IsKnown, fits-one, sound-relink, relink-Stands, relink-stays, relink-comes}
-use Rattle.wb_model.proofs.Ends.{opposites, opposite-back, containment-one, Opposed, In-both_ends, ends-this, ends-that, ends-cases}
+use Rattle.wb_model.proofs.Ends.{opposite-back, containment-one, Opposed, In-both_ends, ends-this, ends-that, ends-cases}
 use Rattle.wb_store.proofs.Filtered.{filter-few, filter-none}
 use Rattle.wb_model.proofs.KeptLinks.{one-space}
 use Rattle.wb_validity.proofs.LinkLemmas.{to_false}
@@ -71,21 +72,6 @@ pub record HasPlace (m : Contents) (o p f : ℕ) : Type 0 where
   pub new : Stands m (link p f (Object o)) → ⊥
   pub not_full : is_full m p f ≡ false
 
--- ---- values of a reference are objects
-
-instance-object : (m : Contents) (c : ℕ) (v : Scalar) → is_instance m c v ≡ true → (q : ℕ) × (v ≡ Object q)
-instance-object m c (Object q) h = (q, refl)
-instance-object m c (Int n) h = absurd (false≢true h)
-instance-object m c (Boolean b) h = absurd (false≢true h)
-instance-object m c (Text t) h = absurd (false≢true h)
-instance-object m c (Literal e n) h = absurd (false≢true h)
-
-opposite-object : (m : Contents) → WellFormed m.metamodel → (g f : ℕ) (v : Scalar) → opposite m.metamodel g ≡ Some f → is_of_feature m g v ≡ true → (q : ℕ) × (v ≡ Object q)
-opposite-object m well g f v e h =
-    let pair = opposites m.metamodel well g f e in
-    instance-object m pair.other.owner v
-    (ap (λ k. is_of_kind m k v) (sym pair.opposed.target) ∙ ap (λ r. option_map_or (λ (feature : Feature). is_of_kind m feature.kind v) r false) (sym pair.is_feature) ∙ h)
-
 leads-object : (mm : Metamodel) (o q g x : ℕ) → leads_to mm o (link q g (Object x)) ≡ true → (is_containment mm g ≡ true) × (x ≡ o)
 leads-object mm o q g x h =
     let both = and_parts (is_containment mm g) (eqb x o) h in
@@ -113,7 +99,7 @@ module _ (m : Contents) (well : WellFormed m.metamodel) (s : Sound m) (o p f : �
   container-goes : (g : ℕ) (v : Scalar) → opposite mm f ≡ Some g → In v (slot m o g) → goes (link o g v) ≡ true
   container-goes g v e i =
       let back = opposite-back mm well f g e in
-      let q = opposite-object m well g f v back (s.of_kind (link o g v) i) in
+      let q = object_value m well g f v back (s.of_kind (link o g v) i) in
       let held : Link = link q.0 f (Object o) in
       let leads : leads_to mm o held ≡ true = and_from (is_containment mm f) (same (Object o) (Object o)) has.holds.containment ((same_decides (Object o) (Object o)).1 refl) in
       ends-that mm (leads_to mm o) (link o g v) held (record { features = back; to = q.1; from = refl }) leads

@@ -22,10 +22,10 @@ Refutes (Broken number object) P = ¬ P
 Refutes OutOfMemory P = Unit {0}
 
 -- a model where there is no breach, and else the breach that there is
-abbrev pub Names : {A : Type 0} → Result A BuildRefusal → Option Breach → Type 0
-Names (Ok x) breach = breach ≡ None
-Names (Err (Broken number o)) breach = breach ≡ Some (number, o)
-Names (Err OutOfMemory) breach = Unit {0}
+abbrev pub NamesBreach : {A : Type 0} → Result A BuildRefusal → Option Breach → Type 0
+NamesBreach (Ok x) breach = breach ≡ None
+NamesBreach (Err (Broken number o)) breach = breach ≡ Some (number, o)
+NamesBreach (Err OutOfMemory) breach = Unit {0}
 
 abbrev pub refusal_of : Flaw → BuildRefusal
 refusal_of (At number object) = Broken number (Some object)

@@ -1,7 +1,7 @@
 ghost use Rattle.std.specs.Prelude.{◌≡◌, true, IfOk, OnOk, IfErr};
 ghost use Rattle.std.specs.List.{list_all};
 ghost use Rattle.wb_validity.specs.Broken.{broken, miswritten};
-ghost use Rattle.wb_model.specs.Building.{Names, refusal_of, MakeModel, Refutes};
+ghost use Rattle.wb_model.specs.Building.{NamesBreach, refusal_of, MakeModel, Refutes};
 ghost use Rattle.wb_store.specs.Parts.{AreParts, made_of, is_listed_slot, slot_of, are_known};
 ghost use Rattle.wb_store.specs.Records.{is_known_slot};
 
@@ -13,7 +13,7 @@ use wb_store::{ObjectSet, Part, SlotPart, Store};
 use wb_validity::{Flaw, check_all};
 
 /// Why a model is not built.
-#[derive(Clone, Copy, Debug, PartialEq, Eq)]
+#[derive(Clone, Copy)]
 pub enum BuildRefusal {
     /// A condition that a model has to meet, by its number, and an object that shows it.
     Broken(u8, Option<ObjectId>),
@@ -42,7 +42,7 @@ pub fn build(
     ensures made { IfOk result (λ model. model ≡ made_of metamodel next objects roots) }
     ensures accepted { OnOk result (MakeModel metamodel next objects roots) }
     ensures refused { IfErr result (λ refusal. Refutes refusal (MakeModel metamodel next objects roots)) }
-    ensures named { Names result (broken (made_of metamodel next objects roots) (miswritten metamodel objects)) }
+    ensures named { NamesBreach result (broken (made_of metamodel next objects roots) (miswritten metamodel objects)) }
 {
     let listed = miswritten(alloc, &metamodel, objects.as_slice())?;
     let wrong = ObjectSet::new(listed)?;

@@ -1,5 +1,5 @@
 /// What edits have changed since the list was begun.
-#[derive(Debug, Drop)]
+#[derive(Drop)]
 pub struct ChangeList {}
 
 impl ChangeList {

@@ -4,7 +4,7 @@ ghost use Rattle.wb_model.specs.declared.refusals.ModelRefusal.TheVariants.{NoMe
 use std::alloc::{AllocError, AllocFailed};
 
 /// Why an edit is refused; the first that holds, in this order.
-#[derive(Clone, Copy, Debug, PartialEq, Eq)]
+#[derive(Clone, Copy)]
 pub enum ModelRefusal {
     /// An object that is named, as a value too, is not live.
     UnknownObject,

@@ -10,7 +10,6 @@ pub mod RowsSound
 pub mod SayableModels
 pub mod SayableWalk
 pub mod Shallow
-pub mod Unbroken
 pub mod Unrepeated
 pub mod WrittenForms
 pub mod WrittenLemmas

@@ -43,7 +43,7 @@ use Rattle.wb_model_json.specs.Sayable.{IsSayable}
 use Rattle.wb_model_json.specs.Written.{is_filled, named_slot, named_slots, object_data, number_data, model_data}
 use Rattle.wb_model_json.proofs.ByName.{In-by_name}
 use Rattle.wb_model_json.proofs.Entries.{entry-get, get-entry, from_entries-entries, entries-functional, entries-once}
-use Rattle.wb_model_json.proofs.Unbroken.{unbroken}
+use Rattle.wb_validity.proofs.Unbroken.{unbroken}
 use Rattle.wb_model_json.proofs.Unrepeated.{once-none}
 use Rattle.wb_model_json.proofs.WrittenForms.{list_of-written, walked-made}
 use Rattle.wb_model_json.proofs.WrittenObjects.{named_slots_of, object_text, object_part, slot-entry, named-origin, of_object, slot-written, all-written, next-small, object-small, class-known, object-read, object-again}

@@ -21,7 +21,7 @@ use Rattle.wb_store.specs.Features.{is_many}
 use Rattle.wb_validity.specs.Valid.{Valid, every_slot, is_of_kind, is_of_feature}
 use Rattle.wb_store.proofs.Maps.{slot_cmp_total, slot_cmp-IsAntisymmetric}
 use Rattle.wb_store.proofs.Members.{In, In-all, map-In, Contains-In}
-use Rattle.wb_validity.proofs.Trees.{filter-In}
+use Rattle.wb_store.proofs.Filtered.{filter-In}
 use Rattle.wb_model_json.specs.declared.model_text.SlotText.{SlotText}
 use Rattle.wb_model_json.specs.declared.model_text.ObjectText.{ObjectText}
 use Rattle.wb_model_json.specs.ByName.{by_name}

@@ -3,7 +3,7 @@ use wb_base::List;
 use wb_metamodel::{ClassId, FeatureId, ObjectId};
 
 /// A slot of a model that is to be built.
-#[derive(Debug, Drop)]
+#[derive(Drop)]
 pub struct SlotPart {
     pub feature: FeatureId,
     /// Are the values written as a list?
@@ -12,7 +12,7 @@ pub struct SlotPart {
 }
 
 /// An object of a model that is to be built.
-#[derive(Debug, Drop)]
+#[derive(Drop)]
 pub struct Part {
     pub id: ObjectId,
     pub class: ClassId,

@@ -11,7 +11,7 @@ use wb_base::List;
 use wb_metamodel::{ClassId, FeatureId, Metamodel, ObjectId};
 
 /// An object with its slots, ascending by feature.
-#[derive(Debug, Drop)]
+#[derive(Drop)]
 pub struct Record {
     pub id: ObjectId,
     pub class: ClassId,
@@ -19,7 +19,7 @@ pub struct Record {
 }
 
 /// The values of a feature.
-#[derive(Debug, Drop)]
+#[derive(Drop)]
 pub struct Slot {
     pub feature: FeatureId,
     pub values: List<Scalar>,

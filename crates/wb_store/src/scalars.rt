@@ -59,14 +59,14 @@ impl Hash for Scalar {
 }
 
 /// Where an object is put: among the roots, or last in a containment slot.
-#[derive(Clone, Copy, Debug, PartialEq, Eq)]
+#[derive(Clone, Copy)]
 pub enum Place {
     Root,
     In(ObjectId, FeatureId),
 }
 
 /// A part of a model that can be read by itself.
-#[derive(Clone, Copy, Debug, PartialEq, Eq, Hash)]
+#[derive(Clone, Copy, PartialEq, Eq, Hash)]
 pub enum Cell {
     /// The class of an object.
     Kind(ObjectId),

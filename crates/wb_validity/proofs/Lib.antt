@@ -9,5 +9,6 @@ pub mod Ranges
 pub mod RingLemmas
 pub mod RootLemmas
 pub mod Trees
+pub mod Unbroken
 pub mod ValidSlots
 pub mod ValidTest

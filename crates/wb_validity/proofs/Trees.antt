@@ -21,6 +21,7 @@ use Rattle.wb_store.specs.Cells.{objects_in, features, content, tree_within, tre
 use Rattle.wb_validity.specs.Valid.{every_slot, conforms_to, is_of_kind, is_of_feature, Valid, IsValid}
 use Rattle.wb_validity.specs.Valid.Within.{directly}
 use Rattle.wb_validity.specs.ValidTest.{is_within}
+use Rattle.wb_store.proofs.Filtered.{filter-In}
 use Rattle.wb_store.proofs.Found.{is_itself}
 use Rattle.wb_store.proofs.Maps.{slot_cmp_total, slot_cmp-IsAntisymmetric}
 use Rattle.wb_store.proofs.Members.{In, In-all, any_In, In-map, flat_map-In, find-In}
@@ -31,18 +32,6 @@ use Rattle.wb_validity.proofs.ValidTest.{is_within-decides}
 -- ---- lists
 
 module _ {A : Type 0} where
-  in_cons : (p : A → Bool) (xs ys : List A) (x y : A) → p y ≡ true → (In x ys → In x xs × (p x ≡ true)) → In x (y ∷ ys) → In x (y ∷ xs) × (p x ≡ true)
-  in_cons p xs ys x z e rest here = (here, e)
-  in_cons p xs ys x y e rest (there m) = let r = rest m in (there r.0, r.1)
-
-  pub filter-In : (p : A → Bool) (xs : List A) (x : A) → In x (filter p xs) → In x xs × (p x ≡ true)
-  filter-In p [] x m = elim m [ ]
-  filter-In p (y ∷ xs) x m =
-      elim (p y) as (λ b. p y ≡ b → In x (cond b (y ∷ filter p xs) (filter p xs)) → In x (y ∷ xs) × (p x ≡ true)) [
-        | true ↦ λ e m. in_cons p xs (filter p xs) x y e (filter-In p xs x) m
-        | false ↦ λ e m. let rest = filter-In p xs x m in (there rest.0, rest.1)
-      ] refl m
-
   pub flat_map-same : {B : Type 0} (f g : A → List B) (xs : List A) → ((x : A) → In x xs → f x ≡ g x) → flat_map f xs ≡ flat_map g xs
   flat_map-same f g [] h = refl
   flat_map-same f g (x ∷ xs) h = λ i. h x here i ++ flat_map-same f g xs (λ y m. h y (there m)) i

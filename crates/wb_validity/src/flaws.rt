@@ -4,7 +4,7 @@ use std::alloc::AllocError;
 use wb_metamodel::ObjectId;
 
 /// A condition of a valid model that does not hold, by its number.
-#[derive(Clone, Copy, Debug)]
+#[derive(Clone, Copy)]
 pub enum Flaw {
     /// An object shows it.
     At(u8, ObjectId),

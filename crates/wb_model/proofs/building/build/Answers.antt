@@ -5,7 +5,7 @@ use Rattle.wb_store.specs.declared.parts.Part.{Part}
 use Rattle.wb_model.specs.declared.building.BuildRefusal.{BuildRefusal}
 use Rattle.wb_validity.specs.Broken.{broken, miswritten}
 use Rattle.wb_store.specs.Contents.{Contents}
-use Rattle.wb_model.specs.Building.{Names, MakeModel, Refutes}
+use Rattle.wb_model.specs.Building.{NamesBreach, MakeModel, Refutes}
 use Rattle.wb_store.specs.Parts.{made_of, record_of, are_known}
 use Rattle.wb_store.specs.Records.{is_known}
 use Rattle.wb_model.proofs.Made.{made_valid, made_model, model_whole, same_breach, names, refutes}
@@ -41,5 +41,5 @@ pub returns-clause-named : goal.returns-clause-named
 returns-clause-named c =
     let wrong = subst (λ ws. IsPermutation ws c.in_ok-wrong.wrong) (c.in_ok-listed.ensures ∙ ap (miswritten c.args.metamodel) c.as_slice.ensures) c.in_ok-wrong.ensures in
     let breach = broken (made_of c.args.metamodel c.args.next c.args.objects c.args.roots) (miswritten c.args.metamodel c.args.objects) in
-    subst (λ (r : BuildRefusal). Names {A = Contents} (Err r) breach) (sym c.refusal_of.ensures)
+    subst (λ (r : BuildRefusal). NamesBreach {A = Contents} (Err r) breach) (sym c.refusal_of.ensures)
     (names c.in-Err.flaw (broken c.in_ok-store.store c.in_ok-wrong.wrong) breach (same_breach c.args.metamodel c.args.next c.args.objects c.args.roots c.in_ok-store.store c.in_ok-store.ensures c.is_kept.ensures.0 c.is_kept.ensures.1 c.in_ok-wrong.wrong wrong) c.in-Err.ensures)
