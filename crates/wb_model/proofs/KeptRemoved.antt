@@ -1,11 +1,9 @@
 -- A removal keeps a model valid.
-use Rattle.std.proofs.Common.{◌≡◌, ℕ, ◌+◌, ◌≤◌, suc, Bool, true, false, not, List, [], ◌∷◌, length, Some, None, refl, sym, ap, subst, ◌∙◌, cond, arith, inl, ⊎_elim}
+use Rattle.std.proofs.Common.{◌≡◌, ℕ, ◌≤◌, Bool, true, false, not, List, [], ◌∷◌, Some, None, refl, sym, ap, subst, ◌∙◌, cond, arith, inl, ⊎_elim}
 use Rattle.std.proofs.lemmas.Bool.{false≢true, not-true, not_from_false, or_left, or_right, or_cases, or_parts, cases_Bool}
-use Rattle.std.proofs.lemmas.Cmp.{nat_cmp_total}
 use Rattle.std.proofs.lemmas.Option.{none-some}
 use Rattle.std.specs.Prelude.{filter, IsSome, Ok}
-use Rattle.std.specs.Ordering.{nat_cmp}
-use Rattle.std.specs.FinMap.{entries, len, len-empty, len-insert, len-entries, contains_key, from_entries}
+use Rattle.std.specs.FinMap.{entries, len, len-entries}
 use Rattle.wb_metamodel.specs.Metamodel.{Metamodel}
 use Rattle.wb_metamodel.specs.WellFormed.{WellFormed}
 use Rattle.wb_store.specs.declared.scalars.Scalar.TheVariants.{Object}
@@ -26,6 +24,7 @@ use Rattle.wb_model.proofs.Placing.{same-object}
 use Rattle.wb_model.proofs.KeptLinks.{accepted, sound, housed, valid}
 use Rattle.wb_validity.proofs.LinkLemmas.{any_found, to_false}
 use Rattle.wb_model.proofs.Live.{kind-some, some-kind, contained-live, of_class-kept, of_feature-kept}
+use Rattle.wb_store.proofs.Maps.{len-from_entries}
 use Rattle.wb_store.proofs.Members.{In, any_In}
 use Rattle.wb_store.proofs.Members.In.{there}
 use Rattle.wb_store.proofs.Without.{kind-without}
@@ -52,16 +51,6 @@ touches-back dead mm l k o h =
 
 -- ---- fewer objects
 
-entries-few : (es : List (ℕ × ℕ)) → len (from_entries {R = nat_cmp} es) ≤ length es
-entries-few [] = let none = len-empty nat_cmp ℕ in omega (arith, none)
-entries-few (e ∷ es) =
-    let few = entries-few es in
-    subst (λ n. n ≤ length (e ∷ es)) (sym (len-insert nat_cmp_total (from_entries es) e.0 e.1)) (one-more (contains_key (from_entries {R = nat_cmp} es) e.0) (len (from_entries {R = nat_cmp} es)) (length es) few)
-  where
-    one-more : (b : Bool) (a n : ℕ) → a ≤ n → cond b a (a + 1) ≤ suc n
-    one-more true a n h = omega arith
-    one-more false a n h = omega arith
-
 module _ (m : Contents) (dead : List ℕ) where
   abbrev left : Contents
   left = without dead m
@@ -82,7 +71,7 @@ module _ (m : Contents) (dead : List ℕ) where
 
   few-left : len m.kinds ≤ 20000 → len left.kinds ≤ 20000
   few-left h =
-      let few = entries-few stay_entries in
+      let few = len-from_entries stay_entries in
       let fewer = filter-few (λ (e : ℕ × ℕ). not (is_among dead e.0)) (entries m.kinds) in
       let all = len-entries m.kinds in
       omega (arith, few, fewer, all)

@@ -1,14 +1,12 @@
 -- The model that parts make is valid exactly where no check finds anything.
 use Rattle.std.proofs.Common.{◌≡◌, ℕ, ◌+◌, ◌≤◌, Bool, true, false, not, List, [], ◌∷◌, map, length, Option, Some, None, Err, refl, sym, ap, subst, ◌∙◌, cond, eqb, arith}
 use Rattle.std.proofs.lemmas.Bool.{and_parts, or_parts, both_ways, not_from_false, true_from_ne_false}
-use Rattle.std.proofs.lemmas.Cmp.{nat_cmp_total}
 use Rattle.std.proofs.lemmas.Option.{none-some}
-use Rattle.std.specs.Ordering.{nat_cmp}
 use Rattle.std.specs.Prelude.{filter, IsSome}
 use Rattle.std.specs.Option.{option_map}
 use Rattle.std.specs.List.{list_all}
 use Rattle.std.specs.List.Sorted.{IsPermutation}
-use Rattle.std.specs.FinMap.{len, from_entries, contains_key, len-empty, len-insert}
+use Rattle.std.specs.FinMap.{len}
 use Rattle.wb_metamodel.specs.Metamodel.{Metamodel}
 use Rattle.wb_validity.specs.declared.flaws.Flaw.{Flaw}
 use Rattle.wb_validity.specs.declared.flaws.Flaw.TheVariants.{At, Whole, NoMemory}
@@ -25,29 +23,18 @@ use Rattle.wb_store.specs.Records.{id_of, kind_entry}
 use Rattle.wb_validity.specs.Valid.{IsValid}
 use Rattle.wb_store.proofs.Filtered.{In-filter}
 use Rattle.wb_store.proofs.Found.{is_itself}
-use Rattle.wb_store.proofs.Maps.{kind-numbered}
+use Rattle.wb_store.proofs.Maps.{kind-numbered, len-from_entries}
 use Rattle.wb_store.proofs.Members.{In, In-map, all_In, any_In}
 use Rattle.wb_store.proofs.Members.In.{here, there}
 use Rattle.wb_model.proofs.Permuted.{broken-permuted}
 use Rattle.wb_validity.proofs.Unbroken.{broken_none, none_crowded, live_entry, valid_from}
-
-one_more : (b : Bool) (n k : ℕ) → n ≤ k → cond b n (n + 1) ≤ k + 1
-one_more true n k h = omega arith
-one_more false n k h = omega arith
-
-len-made : (es : List (ℕ × ℕ)) → len (from_entries {R = nat_cmp} es) ≤ length es
-len-made [] = let e = len-empty nat_cmp ℕ in omega (arith, e)
-len-made (e ∷ es) =
-    let more = one_more (contains_key (from_entries {R = nat_cmp} es) e.0) (len (from_entries {R = nat_cmp} es)) (length es) (len-made es) in
-    let is = len-insert nat_cmp_total (from_entries es) e.0 e.1 in
-    omega (arith, more, is)
 
 length-entries : (parts : List Part) → length (map kind_entry (map record_of parts)) ≡ length parts
 length-entries [] = refl
 length-entries (p ∷ parts) = let e = length-entries parts in omega (arith, e)
 
 pub few_made : (metamodel : Metamodel) (next : ℕ) (parts : List Part) (roots : List ℕ) → length parts ≤ 20000 → len (made_of metamodel next parts roots).kinds ≤ 20000
-few_made metamodel next parts roots h = let few = len-made (map kind_entry (map record_of parts)) in let same = length-entries parts in omega (arith, few, same, h)
+few_made metamodel next parts roots h = let few = len-from_entries (map kind_entry (map record_of parts)) in let same = length-entries parts in omega (arith, few, same, h)
 
 -- ---- parts
 

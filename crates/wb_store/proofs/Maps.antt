@@ -1,5 +1,5 @@
 -- The finite maps that a list of objects shows: what they have at a key, and their entries in order.
-use Rattle.std.proofs.Common.{◌≡◌, ℕ, Bool, true, false, ◌&&◌, List, [], ◌∷◌, ◌++◌, map, Option, Some, None, refl, sym, ap, subst, ◌∙◌, cond, ltb, eqb, arith, Ordering, T, append_assoc}
+use Rattle.std.proofs.Common.{◌≡◌, ℕ, ◌+◌, ◌≤◌, suc, Bool, true, false, ◌&&◌, List, [], ◌∷◌, ◌++◌, map, length, Option, Some, None, refl, sym, ap, subst, ◌∙◌, cond, ltb, eqb, arith, Ordering, T, append_assoc}
 use Rattle.wb_store.proofs.Found.{is_itself}
 use Rattle.std.proofs.lemmas.Bool.{and_parts, eqb-true}
 use Rattle.std.proofs.lemmas.Bool.Decides.{nat_tests}
@@ -8,7 +8,7 @@ use Rattle.std.specs.Cmp.{IsTotalOrder}
 use Rattle.std.specs.Ordering.{nat_cmp, eq_by_cmp, is_lt}
 use Rattle.std.specs.Option.{option_map, option_map_or, option_and_then, option_or}
 use Rattle.std.specs.List.{list_all, flat_map}
-use Rattle.std.specs.FinMap.{find, is_sorted, IsAntisymmetric, nat_cmp-IsAntisymmetric, entries, from_entries, get-from_entries, entries-from_sorted, from_sorted, get-from_sorted, same_map}
+use Rattle.std.specs.FinMap.{find, is_sorted, IsAntisymmetric, nat_cmp-IsAntisymmetric, entries, from_entries, get-from_entries, entries-from_sorted, from_sorted, get-from_sorted, same_map, len, len-empty, len-insert, contains_key}
 use Rattle.std.specs.FinMap.Entries.{below_all}
 use Rattle.wb_metamodel.specs.Metamodel.{Metamodel}
 use Rattle.wb_store.specs.declared.scalars.Scalar.{Scalar}
@@ -216,3 +216,16 @@ sorted-slots (r ∷ rs) h l = sorted-record r.id r.slots _ (and_parts _ _ l).0 (
 pub entries-slots : (metamodel : Metamodel) (next : ℕ) (rs : List Record) (roots : List ℕ) → rises id_of rs ≡ true → list_all (λ (r : Record). rises feature_of r.slots) rs ≡ true
     → entries (contents_of metamodel next rs roots).slots ≡ flat_map slot_entries rs
 entries-slots metamodel next rs roots h l = entries-in_order slot_cmp_total slot_cmp-IsAntisymmetric (flat_map slot_entries rs) (sorted-slots rs h l)
+
+-- ---- how many entries a map has
+
+one-more : (b : Bool) (n k : ℕ) → n ≤ k → cond b n (n + 1) ≤ suc k
+one-more true n k h = omega arith
+one-more false n k h = omega arith
+
+pub len-from_entries : (es : List (ℕ × ℕ)) → len (from_entries {R = nat_cmp} es) ≤ length es
+len-from_entries [] = let none = len-empty nat_cmp ℕ in omega (arith, none)
+len-from_entries (e ∷ es) =
+    let few = one-more (contains_key (from_entries {R = nat_cmp} es) e.0) (len (from_entries {R = nat_cmp} es)) (length es) (len-from_entries es) in
+    let is = len-insert nat_cmp_total (from_entries es) e.0 e.1 in
+    omega (arith, few, is)
