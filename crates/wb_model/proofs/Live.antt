@@ -14,6 +14,7 @@ use Rattle.wb_store.specs.declared.scalars.Scalar.TheVariants.{Int, Bool as Bool
 use Rattle.wb_store.specs.Contents.{Contents, Filled, slot_cmp, kind, contains}
 use Rattle.wb_store.specs.Relinking.{Link, link}
 use Rattle.wb_validity.specs.Valid.{has_feature, is_of_class, conforms_to, is_of_kind, is_of_feature}
+use Rattle.wb_validity.proofs.Trees.{live_if_of_feature}
 use Rattle.wb_model.proofs.Sound.{Stands, contains-parts, Sound}
 
 pub kind-at : (m : Contents) (o : ℕ) (p : ℕ → Bool) → option_map_or p (kind m o) false ≡ true → (c : ℕ) × (kind m o ≡ Some c) × (p c ≡ true)
@@ -33,27 +34,12 @@ kind-some m o h =
 pub some-kind : (m : Contents) (o c : ℕ) → kind m o ≡ Some c → IsSome (kind m o)
 some-kind m o c e = subst IsSome (sym e) refl
 
--- a feature that is of the kind of some object is a reference to one that is live
-object_of_kind : (m : Contents) (k : Kind) (p : ℕ) → is_of_kind m k (Object p) ≡ true → IsSome (kind m p)
-object_of_kind m IntKind p h = absurd (false≢true h)
-object_of_kind m BoolKind p h = absurd (false≢true h)
-object_of_kind m TextKind p h = absurd (false≢true h)
-object_of_kind m (Enum e) p h = absurd (false≢true h)
-object_of_kind m (Reference c) p h = let d = kind-at m p (λ d. conforms m.metamodel d c) h in some-kind m p d.0 d.1
-
-pub of_feature-live : (m : Contents) (f p : ℕ) → is_of_feature m f (Object p) ≡ true → IsSome (kind m p)
-of_feature-live m f p h =
-    elim (feature_at m.metamodel f) as (λ r. option_map_or (λ (feature : Feature). is_of_kind m feature.kind (Object p)) r false ≡ true → IsSome (kind m p)) [
-      | None ↦ λ h. absurd (false≢true h)
-      | Some feature ↦ λ h. object_of_kind m feature.kind p h
-    ] h
-
 module _ (m : Contents) (s : Sound m) where
   pub object-live : (l : Link) → Stands m l → IsSome (kind m l.object)
   object-live l i = let c = kind-at m l.object (λ c. has_feature m.metamodel c l.feature) (s.of_class l i) in some-kind m l.object c.0 c.1
 
   pub value-live : (l : Link) (p : ℕ) → Stands m l → l.value ≡ Object p → IsSome (kind m p)
-  value-live l p i e = of_feature-live m l.feature p (ap (is_of_feature m l.feature) (sym e) ∙ s.of_kind l i)
+  value-live l p i e = live_if_of_feature m l.feature p (ap (is_of_feature m l.feature) (sym e) ∙ s.of_kind l i)
 
   pub holder-live : (p f o : ℕ) → contains m p f o ≡ true → IsSome (kind m p)
   holder-live p f o h = object-live (link p f (Object o)) (contains-parts m p f o h).1

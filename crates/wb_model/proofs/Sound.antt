@@ -18,6 +18,7 @@ use Rattle.wb_store.specs.Features.{opposite}
 use Rattle.wb_validity.specs.Valid.{every_object, every_slot, is_abstract, is_of_class, room, is_of_feature, differ, holds_back, is_held_back, AreContainedOnce, NoneIsWithinItself, RootsAreUncontained, Valid}
 use Rattle.wb_model.proofs.Ends.{Opposed}
 use Rattle.wb_validity.proofs.LinkLemmas.{any_found}
+use Rattle.wb_validity.proofs.Trees.{at_slot}
 use Rattle.wb_store.proofs.Maps.{slot_cmp_total, slot_cmp-IsAntisymmetric}
 use Rattle.wb_store.proofs.Members.{In, all_In, In-all, any_In, find-In}
 use Rattle.wb_store.proofs.Members.In.{here, there}
@@ -109,20 +110,12 @@ objects-pass m passes h o c e = every-get nat_cmp_total nat_cmp-IsAntisymmetric 
 pass-objects : (m : Contents) (passes : ℕ → ℕ → Bool) → ((o c : ℕ) → kind m o ≡ Some c → passes o c ≡ true) → every_object m passes ≡ true
 pass-objects m passes h = get-every nat_cmp_total nat_cmp-IsAntisymmetric m.kinds (λ (e : ℕ × ℕ). passes e.0 e.1) h
 
--- a test that every slot passes is passed by each that has a value
-slots-pass : (m : Contents) (passes : ℕ → ℕ → List Scalar → Bool) → every_slot m passes ≡ true → (o f : ℕ) (v : Scalar) → In v (slot m o f) → passes o f (slot m o f) ≡ true
-slots-pass m passes h o f v i =
-    elim (get m.slots (o, f)) as (λ r. get m.slots (o, f) ≡ r → In v (option_map_or members r []) → passes o f (option_map_or members r []) ≡ true) [
-      | None ↦ λ e i. elim i [ ]
-      | Some values ↦ λ e i. every-get slot_cmp_total slot_cmp-IsAntisymmetric m.slots (λ (e : (ℕ × ℕ) × Filled). passes e.0.0 e.0.1 (members e.1)) h (o, f) values e
-    ] refl i
-
--- and by each, where it is passed by no values
+-- a test that every slot passes is passed by each, where it is passed by no values
 slots-all : (m : Contents) (passes : ℕ → ℕ → List Scalar → Bool) → every_slot m passes ≡ true → (o f : ℕ) → passes o f [] ≡ true → passes o f (slot m o f) ≡ true
 slots-all m passes h o f none =
     elim (slot m o f) as (λ vs. slot m o f ≡ vs → passes o f vs ≡ true) [
       | [] ↦ λ e. none
-      | v ∷ vs ↦ λ e. subst (λ ws. passes o f ws ≡ true) e (slots-pass m passes h o f v (subst (In v) (sym e) here))
+      | v ∷ vs ↦ λ e. subst (λ ws. passes o f ws ≡ true) e (at_slot m passes h o f v (subst (In v) (sym e) here))
     ] refl
 
 pass-slots : (m : Contents) (passes : ℕ → ℕ → List Scalar → Bool) → ((o f : ℕ) (v : Scalar) → In v (slot m o f) → passes o f (slot m o f) ≡ true) → every_slot m passes ≡ true
@@ -158,7 +151,7 @@ sound-from m v = record {
   next_spent = (and_parts _ _ v.numbers_are_spent).0;
   numbers = objects-pass m (λ o c. ltb 0 o && ltb o m.next) (and_parts _ _ v.numbers_are_spent).1;
   concrete = objects-pass m (λ o c. not (is_abstract m.metamodel c)) v.classes_are_concrete;
-  of_class = λ l s. slots-pass m (λ o f values. is_of_class m o f) v.slots_are_of_classes l.object l.feature l.value s;
+  of_class = λ l s. at_slot m (λ o f values. is_of_class m o f) v.slots_are_of_classes l.object l.feature l.value s;
   has_room = λ o f. leb-true _ _ (slots-all m (λ o f values. leb (length values) (room m.metamodel f)) v.slots_have_room o f (le-leb _ _ (omega arith)));
   of_kind = λ l s. In-all (is_of_feature m l.feature) (slot m l.object l.feature) l.value (slots-all m (λ o f values. list_all (is_of_feature m f) values) v.values_are_of_kinds l.object l.feature refl) s;
   values_differ = λ o f. slots-all m (λ o f values. differ values) v.values_differ o f refl;

@@ -1,11 +1,10 @@
 -- The tree of an object is what it contains, directly or through others.
 use Rattle.std.proofs.Common.{◌≡◌, ℕ, ◌<◌, ◌≤◌, zero, suc, true, false, not, List, [], ◌∷◌, length, map, sym, subst, ◌∙◌, cond, eqb, arith, ⊎_elim, ◌↔◌}
 use Rattle.std.proofs.lemmas.Bool.{not_from_false, eqb-true, ne_eqb}
-use Rattle.std.proofs.lemmas.Cmp.{nat_cmp_total}
 use Rattle.std.proofs.lemmas.List.{length-map}
 use Rattle.std.specs.Prelude.{filter, IsSome}
 use Rattle.std.specs.Option.{option_map_or}
-use Rattle.std.specs.FinMap.{entries, get-entries, len, len-entries, nat_cmp-IsAntisymmetric}
+use Rattle.std.specs.FinMap.{entries, len, len-entries}
 use Rattle.wb_metamodel.specs.Metamodel.{features_of}
 use Rattle.wb_store.specs.declared.scalars.Scalar.{Scalar}
 use Rattle.wb_store.specs.declared.scalars.Scalar.TheVariants.{Int, Bool as Boolean, Text, Literal, Object}
@@ -14,14 +13,15 @@ use Rattle.wb_store.specs.Cells.{objects_in, features, content, tree_within, tre
 use Rattle.wb_validity.specs.Valid.{has_feature, is_of_class, Within, NoneIsWithinItself}
 use Rattle.wb_validity.specs.Valid.Within.{directly, through}
 use Rattle.wb_store.specs.Relinking.{link, is_among}
-use Rattle.wb_store.proofs.Filtered.{In-cons, filter-In, In-filter, filter-few}
+use Rattle.wb_store.proofs.Filtered.{In-cons, In-filter, filter-few}
 use Rattle.wb_store.proofs.Found.{is_itself}
 use Rattle.wb_validity.proofs.LinkLemmas.{any_found}
-use Rattle.wb_model.proofs.Live.{kind-at, kind-some, holder-live, contained-live}
-use Rattle.wb_store.proofs.Members.{In, In-flat_map, flat_map-In, In-map, any_In, find-In}
+use Rattle.wb_validity.proofs.Trees.{content-contains, live_In}
+use Rattle.wb_model.proofs.Live.{kind-at, holder-live, contained-live}
+use Rattle.wb_store.proofs.Members.{In, In-flat_map, flat_map-In, any_In}
 use Rattle.wb_store.proofs.Members.In.{here, there}
 use Rattle.wb_model.proofs.Rehoused.{within-joined, within-first}
-use Rattle.wb_model.proofs.Sound.{contains-parts, contains-from, Sound}
+use Rattle.wb_model.proofs.Sound.{contains-parts, Sound}
 
 -- ---- what an object contains directly
 
@@ -37,25 +37,11 @@ In-objects [] o m = elim m [ ]
 In-objects (v ∷ vs) o m =
     ⊎_elim (λ e. subst (λ w. In o (objects_in (w ∷ vs))) (sym e) here) (λ n. objects-later v vs o (In-objects vs o n)) (In-cons v vs (Object o) m)
 
-objects-In : (vs : List Scalar) (o : ℕ) → In o (objects_in vs) → In (Object o) vs
-objects-In [] o m = elim m [ ]
-objects-In (Int n ∷ vs) o m = there (objects-In vs o m)
-objects-In (Boolean b ∷ vs) o m = there (objects-In vs o m)
-objects-In (Text t ∷ vs) o m = there (objects-In vs o m)
-objects-In (Literal e n ∷ vs) o m = there (objects-In vs o m)
-objects-In (Object p ∷ vs) o m = ⊎_elim (λ e. subst (λ z. In (Object z) (Object p ∷ vs)) e here) (λ n. there (objects-In vs o n)) (In-cons p (objects_in vs) o m)
-
 In-features : (m : Contents) (o f : ℕ) → is_of_class m o f ≡ true → In f (features m o)
 In-features m o f h =
     let c = kind-at m o (λ c. has_feature m.metamodel c f) h in
     let r = any_found (λ feature. eqb feature f) (features_of m.metamodel c.0) c.2 in
     subst (λ k. In f (option_map_or (features_of m.metamodel) k [])) (sym c.1) (subst (λ z. In z (features_of m.metamodel c.0)) (eqb-true r.0 f r.2) r.1)
-
-pub content-In : (m : Contents) (o p : ℕ) → In p (content m o) → (f : ℕ) × (contains m o f p ≡ true)
-content-In m o p i =
-    let r = flat_map-In (λ f. objects_in (slot m o f)) (filter (is_containment m.metamodel) (features m o)) p i in
-    let f = filter-In (is_containment m.metamodel) (features m o) r.0 r.1 in
-    (r.0, contains-from m o r.0 p f.1 (objects-In (slot m o r.0) p r.2))
 
 module _ (m : Contents) (s : Sound m) where
   pub In-content : (o f p : ℕ) → contains m o f p ≡ true → In p (content m o)
@@ -72,7 +58,7 @@ unfolding tree_within
 within-In m zero o p i = elim i [ ]
 within-In m (suc n) o p i =
     let r = flat_map-In (λ p. p ∷ tree_within m n p) (content m o) p i in
-    let c = content-In m o r.0 r.1 in
+    let c = content-contains m o r.0 r.1 in
     ⊎_elim
     (λ e. directly c.0 (subst (λ z. contains m o c.0 z ≡ true) e c.1))
     (λ later. within-joined m o r.0 p (directly c.0 c.1) (within-In m n r.0 p later))
@@ -116,11 +102,6 @@ module _ (m : Contents) (s : Sound m) (none : NoneIsWithinItself m) where
       (λ v. there (In-within n rest q p (omega arith) (left q step) (λ x u. left x (within-joined m o q x step u)) v))
       first.3)
 
-  live-In : (o : ℕ) → IsSome (kind m o) → In o (map (λ (e : ℕ × ℕ). e.0) (entries m.kinds))
-  live-In o live =
-      let c = kind-some m o live in
-      In-map (λ (e : ℕ × ℕ). e.0) (entries m.kinds) (o, c.0) (find-In nat_cmp_total nat_cmp-IsAntisymmetric (entries m.kinds) o c.0 (sym (get-entries m.kinds o) ∙ c.1))
-
   within-live : (o p : ℕ) → Within m o p → IsSome (kind m p)
   within-live o p (directly f h) = contained-live m s o f p h
   within-live o p (through {q = q} f w h) = contained-live m s q f p h
@@ -131,8 +112,8 @@ module _ (m : Contents) (s : Sound m) (none : NoneIsWithinItself m) where
       let first = within-first m o p w in
       let few : length (map (λ (e : ℕ × ℕ). e.0) (entries m.kinds)) ≤ len m.kinds = subst (λ k. length (map (λ (e : ℕ × ℕ). e.0) (entries m.kinds)) ≤ k) (length-map (entries m.kinds) (λ (e : ℕ × ℕ). e.0) ∙ sym (len-entries m.kinds)) (omega arith) in
       In-within (len m.kinds) (map (λ (e : ℕ × ℕ). e.0) (entries m.kinds)) o p few
-      (live-In o (holder-live m s o first.0 first.1 first.2))
-      (λ q v. live-In q (within-live o q v)) w
+      (live_In m o (holder-live m s o first.0 first.1 first.2))
+      (λ q v. live_In m q (within-live o q v)) w
 
 -- ---- membership as a test
 

@@ -100,7 +100,7 @@ live_if_of_kind m TextKind p h = absurd (false≢true h)
 live_if_of_kind m (Enum e) p h = absurd (false≢true h)
 live_if_of_kind m (Reference c) p h = live_if_conforms m c p h
 
-live_if_of_feature : (m : Contents) (f p : ℕ) → is_of_feature m f (Object p) ≡ true → IsSome (kind m p)
+pub live_if_of_feature : (m : Contents) (f p : ℕ) → is_of_feature m f (Object p) ≡ true → IsSome (kind m p)
 live_if_of_feature m f p h =
     elim (feature_at m.metamodel f) as (λ r. option_map_or (λ (feature : Feature). is_of_kind m feature.kind (Object p)) r false ≡ true → IsSome (kind m p)) [
       | None ↦ λ h. absurd (false≢true h)
