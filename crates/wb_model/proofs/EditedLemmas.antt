@@ -3,25 +3,29 @@ use Rattle.std.proofs.Common.{◌≡◌, ℕ, Bool, true, false, Option, Some, N
 use Rattle.std.proofs.lemmas.Bool.{and_parts}
 use Rattle.std.specs.Prelude.{IsSome, is_some}
 use Rattle.std.specs.Result.{IsErrAnd}
+use Rattle.wb_base.specs.Answering.{IsRefusal}
 use Rattle.wb_model.specs.declared.refusals.ModelRefusal.{ModelRefusal}
 use Rattle.wb_model.specs.declared.refusals.ModelRefusal.TheVariants.{UnknownObject, KindMismatch, UpperBound, ContainmentCycle, AbstractClass, TooManyObjects, IdsSpent, NoMemory}
 use Rattle.wb_store.specs.Contents.{Contents, kind}
 use Rattle.wb_validity.specs.Valid.{IsValid, is_of_feature}
 use Rattle.wb_store.specs.Relinking.{Link}
-use Rattle.wb_model.specs.Edits.{unless, Edited, first_refusal, is_live, is_known_value, is_plain_feature, refusal_of_link}
+use Rattle.wb_model.specs.Edits.{unless, named, Edited, first_refusal, is_live, is_known_value, is_plain_feature, refusal_of_link}
 use Rattle.wb_model.specs.EditChecks.{Tells}
 use Rattle.wb_model.proofs.KeptLinks.{link-accepted}
 
 -- a refusal of the definition, and the model as before
-pub refused : (A : Type 0) (e : ModelRefusal) (edit : Result Contents ModelRefusal) (m : Contents) → edit ≡ Err e → Edited {A = A} (Err e) edit m m
-refused A UnknownObject edit m h = (h, refl)
-refused A KindMismatch edit m h = (h, refl)
-refused A UpperBound edit m h = (h, refl)
-refused A ContainmentCycle edit m h = (h, refl)
-refused A AbstractClass edit m h = (h, refl)
-refused A TooManyObjects edit m h = (h, refl)
-refused A IdsSpent edit m h = (h, refl)
-refused A NoMemory edit m h = refl
+is_named : (e : ModelRefusal) (edit : Result Contents ModelRefusal) → edit ≡ Err e → IsRefusal (named e) edit
+is_named UnknownObject edit h = h
+is_named KindMismatch edit h = h
+is_named UpperBound edit h = h
+is_named ContainmentCycle edit h = h
+is_named AbstractClass edit h = h
+is_named TooManyObjects edit h = h
+is_named IdsSpent edit h = h
+is_named NoMemory edit h = tt
+
+refused : (A : Type 0) (e : ModelRefusal) (edit : Result Contents ModelRefusal) (m : Contents) → edit ≡ Err e → Edited {A = A} (Err e) edit m m
+refused A e edit m h = (is_named e edit h, refl)
 
 -- the refusal that a check tells is that of the edit
 pub told : (A : Type 0) (refusal : Option ModelRefusal) (e : ModelRefusal) (x m : Contents) → Err e ≡ unless refusal (tt {0}) → Edited {A = A} (Err e) (unless refusal x) m m
@@ -39,7 +43,7 @@ pub done : (refusal : Option ModelRefusal) (x n : Contents) → Ok (tt {0}) ≡ 
 done refusal x n h e = ap (λ r. unless r x) (none_told refusal h) ∙ ap Ok (sym e)
 
 pub no_memory : (A : Type 0) (e : ModelRefusal) (edit : Result Contents ModelRefusal) (m n : Contents) → e ≡ NoMemory → n ≡ m → Edited {A = A} (Err e) edit m n
-no_memory A e edit m n h same = subst (λ e. Edited {A = A} (Err e) edit m n) (sym h) same
+no_memory A e edit m n h same = subst (λ e. Edited {A = A} (Err e) edit m n) (sym h) (tt, same)
 
 is_some-IsSome : (r : Option ℕ) → is_some r ≡ true → IsSome r
 is_some-IsSome None h = h
@@ -58,14 +62,7 @@ accepted_value many m l h =
 -- an edit that keeps models valid leaves a valid one in any case
 pub edited_valid : {A : Type 0} (r : Result A ModelRefusal) (edit : Result Contents ModelRefusal) (m n : Contents) → Edited r edit m n → IsValid m → ((k : Contents) → edit ≡ Ok k → IsValid k) → IsValid n
 edited_valid (Ok x) edit m n h valid kept = kept n h
-edited_valid (Err NoMemory) edit m n h valid kept = subst IsValid (sym h) valid
-edited_valid (Err UnknownObject) edit m n h valid kept = subst IsValid (sym h.1) valid
-edited_valid (Err KindMismatch) edit m n h valid kept = subst IsValid (sym h.1) valid
-edited_valid (Err UpperBound) edit m n h valid kept = subst IsValid (sym h.1) valid
-edited_valid (Err ContainmentCycle) edit m n h valid kept = subst IsValid (sym h.1) valid
-edited_valid (Err AbstractClass) edit m n h valid kept = subst IsValid (sym h.1) valid
-edited_valid (Err TooManyObjects) edit m n h valid kept = subst IsValid (sym h.1) valid
-edited_valid (Err IdsSpent) edit m n h valid kept = subst IsValid (sym h.1) valid
+edited_valid (Err e) edit m n h valid kept = subst IsValid (sym h.1) valid
 
 -- the same where the refusal is passed on
 pub told_on : {A : Type 0} (refusal : Option ModelRefusal) (r : Result A ModelRefusal) (e : ModelRefusal) (x m : Contents) → IsErrAnd r (λ d. d ≡ e) → Err e ≡ unless refusal (tt {0}) → Edited r (unless refusal x) m m

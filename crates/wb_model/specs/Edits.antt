@@ -3,6 +3,7 @@ use Rattle.std.specs.Prelude.{◌≡◌, ℕ, suc, ◌^◌, Bool, true, false, n
 use Rattle.std.specs.Option.{option_map_or}
 use Rattle.std.specs.List.{list_any}
 use Rattle.std.specs.FinMap.{insert, len}
+use Rattle.wb_base.specs.Answering.{IsRefusal}
 use Rattle.wb_metamodel.specs.Metamodel.{Metamodel, conforms, feature_at}
 use Rattle.wb_ecore.specs.declared.features.Feature.{Feature}
 use Rattle.wb_ecore.specs.declared.features.Kind.{Kind}
@@ -167,8 +168,18 @@ create m class place = unless (refusal_of_create m class place) (created class p
 
 -- ---- what an edit leaves
 
+-- the refusal of an error; want of memory is none
+abbrev pub named : ModelRefusal → Option ModelRefusal
+named UnknownObject = Some UnknownObject
+named KindMismatch = Some KindMismatch
+named UpperBound = Some UpperBound
+named ContainmentCycle = Some ContainmentCycle
+named AbstractClass = Some AbstractClass
+named TooManyObjects = Some TooManyObjects
+named IdsSpent = Some IdsSpent
+named NoMemory = None
+
 -- an accepted edit leaves the model of its definition; a refusal is that of the definition, and leaves the model as before, want of memory too
 abbrev pub Edited : {A : Type 0} → Result A ModelRefusal → Result Contents ModelRefusal → Contents → Contents → Type 0
 Edited (Ok _) edit old new = edit ≡ Ok new
-Edited (Err NoMemory) edit old new = new ≡ old
-Edited (Err refusal) edit old new = (edit ≡ Err refusal) × (new ≡ old)
+Edited (Err e) edit old new = IsRefusal (named e) edit × (new ≡ old)
