@@ -42,9 +42,6 @@ none_told (Some r) h = cc
 pub done : (refusal : Option ModelRefusal) (x n : Contents) → Ok (tt {0}) ≡ unless refusal (tt {0}) → n ≡ x → unless refusal x ≡ Ok n
 done refusal x n h e = ap (λ r. unless r x) (none_told refusal h) ∙ ap Ok (sym e)
 
-pub no_memory : (A : Type 0) (e : ModelRefusal) (edit : Result Contents ModelRefusal) (m n : Contents) → e ≡ NoMemory → n ≡ m → Edited {A = A} (Err e) edit m n
-no_memory A e edit m n h same = subst (λ e. Edited {A = A} (Err e) edit m n) (sym h) (tt, same)
-
 is_some-IsSome : (r : Option ℕ) → is_some r ≡ true → IsSome r
 is_some-IsSome None h = h
 is_some-IsSome (Some x) h = refl
