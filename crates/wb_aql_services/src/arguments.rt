@@ -6,7 +6,7 @@ use wb_aql_values::Value;
 use wb_metamodel::ClassId;
 
 /// What a service is handed between its parentheses.
-#[derive(Debug, Drop)]
+#[derive(Drop)]
 pub enum Argument {
     /// A type.
     Class(ClassId),

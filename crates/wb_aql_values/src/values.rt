@@ -7,7 +7,7 @@ use wb_base::{Duplicate, List};
 use wb_model::Scalar;
 
 /// What an expression gives.
-#[derive(Debug, Drop)]
+#[derive(Drop)]
 pub enum Value {
     Null,
     One(Scalar),
@@ -24,7 +24,7 @@ pub enum Sort {
 }
 
 /// A value or a fault.
-#[derive(Debug, Drop)]
+#[derive(Drop)]
 pub enum Answer {
     Value(Value),
     Fault(Fault),

@@ -3,14 +3,14 @@ use wb_metamodel::{ClassId, FeatureId};
 use wb_model::Scalar;
 
 /// One object of a model by itself.
-#[derive(Debug, Drop)]
+#[derive(Drop)]
 pub struct ObjectRow {
     pub class: ClassId,
     pub slots: List<RowSlot>,
 }
 
 /// A slot that is not empty.
-#[derive(Debug, Drop)]
+#[derive(Drop)]
 pub struct RowSlot {
     pub feature: FeatureId,
     pub values: List<Scalar>,

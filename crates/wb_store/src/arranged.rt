@@ -1,6 +1,6 @@
 ghost use Rattle.std.specs.Prelude.{◌≡◌, true, map, IfOk};
 ghost use Rattle.std.specs.List.{list_all, AllZip};
-ghost use Rattle.wb_store.specs.invariants.Arranged.{AreArranged, IsArranged};
+ghost use Rattle.wb_store.specs.invariants.Arranged.{AreArranged, IsArranged, AreSorted};
 ghost use Rattle.wb_store.specs.Parts.{slot_of, record_of};
 ghost use Rattle.wb_store.specs.Records.{feature_of};
 ghost use Rattle.wb_store.specs.Places.{once};
@@ -10,8 +10,18 @@ use crate::records::{Record, Slot};
 use std::alloc::{AllocError, Global};
 use wb_base::List;
 
-/// The objects of parts, in their order, each with its slots ascending by feature.
-pub fn arranged_records(alloc: Global, parts: List<Part>) -> Result<Vec<Record>, AllocError>
+/// The objects of parts, ascending by number, each with its slots ascending by feature.
+pub fn sorted_records(alloc: Global, parts: List<Part>) -> Result<Vec<Record>, AllocError>
+    requires { list_all (λ r. once (map feature_of r.slots)) (map record_of parts) ≡ true }
+    ensures { IfOk result (λ records. AreSorted (map record_of parts) records.items) }
+{
+    let mut records = arranged_records(alloc, parts)?;
+    records.sort_by_key(|record| record.id.0)?;
+    Ok(records)
+}
+
+// The objects of parts, in their order, each with its slots ascending by feature.
+fn arranged_records(alloc: Global, parts: List<Part>) -> Result<Vec<Record>, AllocError>
     requires { list_all (λ r. once (map feature_of r.slots)) (map record_of parts) ≡ true }
     ensures { IfOk result (λ records. AllZip IsArranged (map record_of parts) records.items) }
 {

@@ -7,7 +7,7 @@ use std::hash::{Hash, Hasher};
 use wb_metamodel::{ClassId, EnumId, FeatureId, ObjectId, Text};
 
 /// A value that stands in a slot.
-#[derive(Debug, Drop)]
+#[derive(Drop)]
 pub enum Scalar {
     Int(i64),
     Bool(bool),

@@ -8,7 +8,7 @@ ghost use Rattle.std.specs.List.{list_all};
 ghost use Rattle.wb_store.specs.Places.{rises};
 ghost use Rattle.wb_store.specs.Records.{is_known_slot, feature_of};
 
-use crate::arranged::arranged_records;
+use crate::arranged::sorted_records;
 use crate::copies::{copy_objects, copy_records};
 use crate::object_sets::ObjectSet;
 use crate::parts::Part;
@@ -91,8 +91,7 @@ impl Store {
         requires { AreParts metamodel objects }
         ensures { IfOk result (λ store. store ≡ made_of metamodel next objects roots) }
     {
-        let mut records = arranged_records(alloc, objects)?;
-        records.sort_by_key(|record| record.id.0)?;
+        let records = sorted_records(alloc, objects)?;
         Ok(Store {
             metamodel,
             next,
