@@ -2,7 +2,7 @@ use wb_aql_values::{Answer, Reads, Value};
 use wb_base::{List, Text};
 
 /// Variables with their values: each name once, and one value for each.
-#[derive(Debug, Drop)]
+#[derive(Drop)]
 pub struct Env {
     pub names: List<Text>,
     pub values: List<Value>,
