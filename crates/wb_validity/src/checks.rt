@@ -20,8 +20,20 @@ pub fn check_all(alloc: Global, store: &Store, wrong: &ObjectSet) -> Result<(), 
     ensures { Finds result (broken store.now wrong.now) }
 {
     let links = LinkSet::new(alloc, store)?;
-    check_first(alloc, store, &links, wrong)?;
-    check_values(alloc, store, &links)?;
+    check_linked(alloc, store, &links, wrong)
+}
+
+fn check_linked(
+    alloc: Global,
+    store: &Store,
+    links: &LinkSet,
+    wrong: &ObjectSet,
+) -> Result<(), Flaw>
+    requires { KnowsLinks store.now links.now }
+    ensures { Finds result (broken store.now wrong.now) }
+{
+    check_first(alloc, store, links, wrong)?;
+    check_values(alloc, store, links)?;
     check_containment(alloc, store)
 }
 

@@ -1,7 +1,7 @@
 use Rattle.std.proofs.lemmas.Result.{err_from_is_err_and}
 use Rattle.wb_validity.specs.Broken.{broken}
 use Rattle.wb_validity.proofs.Findings.{raised, passed_on}
-use Rattle.wb_validity.proofs.checks.check_all.Goals as goal
+use Rattle.wb_validity.proofs.checks.check_linked.Goals as goal
 
 pub returns-in_err-check_first : goal.returns-in_err-check_first
 unfolding broken
