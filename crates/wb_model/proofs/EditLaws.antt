@@ -86,7 +86,7 @@ data IsMade (m : Contents) : Contents → Type 0 where
   fewer : (leaves : Link → Bool) → IsMade m (change leaves [] m)
   linked : (w : Contents) → IsBase m w → (leaves : Link → Bool) (l : Link) → IsMade m (change leaves (l ∷ []) w)
   rooted : (class : ℕ) → IsMade m (with_object class (m.roots ++ m.next ∷ []) m)
-  gone : (o : ℕ) → IsMade m (removed o m)
+  fewer_objects : (o : ℕ) → IsMade m (removed o m)
 
 module _ (m : Contents) where
   made-if : (b : Bool) (n : Contents) → IsMade m n → IsMade m (cond b m n)
@@ -110,7 +110,7 @@ module _ (m : Contents) where
       subst (IsMade m) (accepted (refusal_of_move m o p f) (moved o p f m) n h).1
       (made-if (stands m (link p f (Object o))) (place o p f (without_root o m))
       (made-placed (without_root o m) (record { metamodel = refl; slots = refl; fresh = fresh-fewer m (without_root o m) refl (λ x h. h) }) o p f))
-  made n (by_remove o h) = subst (IsMade m) (accepted (cond (is_live m o) None (Some UnknownObject)) (removed o m) n h).1 (gone o)
+  made n (by_remove o h) = subst (IsMade m) (accepted (cond (is_live m o) None (Some UnknownObject)) (removed o m) n h).1 (fewer_objects o)
   made n (by_create class Root h) = subst (IsMade m) (accepted (refusal_of_create m class Root) (created class Root m) n h).1 (rooted class)
   made n (by_create class (Inside p f) h) =
       subst (IsMade m) (accepted (refusal_of_create m class (Inside p f)) (created class (Inside p f) m) n h).1
@@ -123,7 +123,7 @@ made-metamodel m n same_as = refl
 made-metamodel m n (fewer leaves) = metamodel-relink (λ l. list_any leaves (both_ends m.metamodel l)) [] m
 made-metamodel m n (linked w b leaves l) = metamodel-relink (λ l. list_any leaves (both_ends w.metamodel l)) (flat_map (both_ends w.metamodel) (l ∷ [])) w ∙ b.metamodel
 made-metamodel m n (rooted class) = refl
-made-metamodel m n (gone o) = metamodel-relink (touches (o ∷ tree m o)) [] m
+made-metamodel m n (fewer_objects o) = metamodel-relink (touches (o ∷ tree m o)) [] m
 
 pub same_metamodel : (m n : Contents) → IsEdited m n → n.metamodel ≡ m.metamodel
 same_metamodel m n e = made-metamodel m n (made m n e)
@@ -215,7 +215,7 @@ made-keeps m n well q g (linked w b leaves l) =
     subst (λ (slots : FinMap slot_cmp Filled). KeepsOrder (option_map_or members (get slots (q, g)) []) (slot (change leaves (l ∷ []) w) q g)) b.slots
     (keeps-relink (λ k. list_any leaves (both_ends w.metamodel k)) (flat_map (both_ends w.metamodel) (l ∷ [])) w q g (alone-ends w.metamodel (subst WellFormed (sym b.metamodel) well) l q g))
 made-keeps m n well q g (rooted class) = keeps-all (slot m q g)
-made-keeps m n well q g (gone o) = keeps-relink (touches (o ∷ tree m o)) [] m q g (inl refl)
+made-keeps m n well q g (fewer_objects o) = keeps-relink (touches (o ∷ tree m o)) [] m q g (inl refl)
 
 pub order-kept : (m n : Contents) → WellFormed m.metamodel → IsEdited m n → (o f : ℕ) → KeepsOrder (slot m o f) (slot n o f)
 order-kept m n well e o f = made-keeps m n well o f (made m n e)
@@ -228,7 +228,7 @@ made-fresh m n same_as = fresh-fewer m m refl (λ o h. h)
 made-fresh m n (fewer leaves) = fresh-fewer m (change leaves [] m) refl (λ o h. h)
 made-fresh m n (linked w b leaves l) = record { never_falls = b.fresh.never_falls; fresh = b.fresh.fresh }
 made-fresh m n (rooted class) = fresh-grown m class (m.roots ++ m.next ∷ [])
-made-fresh m n (gone o) = fresh-fewer m (removed o m) refl (λ x h. kind-cond (not (is_among (o ∷ tree m o) x)) (kind m x) None (subst IsSome (kind-without m (o ∷ tree m o) x) h))
+made-fresh m n (fewer_objects o) = fresh-fewer m (removed o m) refl (λ x h. kind-cond (not (is_among (o ∷ tree m o) x)) (kind m x) None (subst IsSome (kind-without m (o ∷ tree m o) x) h))
 
 pub numbers-fresh : (m n : Contents) → IsEdited m n → NumbersAreFresh m n
 numbers-fresh m n e = made-fresh m n (made m n e)

@@ -16,7 +16,7 @@ use Rattle.wb_model.specs.declared.refusals.ModelRefusal.TheVariants.{UnknownObj
 use Rattle.wb_store.specs.Contents.{Contents, kind, slot, contains}
 use Rattle.wb_store.specs.Places.{once}
 use Rattle.wb_validity.specs.Valid.{is_abstract, is_root, RootsAreUncontained, IsValid}
-use Rattle.wb_store.specs.Relinking.{link}
+use Rattle.wb_store.specs.Relinking.{link, relink}
 use Rattle.wb_model.specs.Edits.{place, with_object, created, first_refusal, is_live, may_contain, is_full, refusal_of_create, create}
 use Rattle.wb_model.proofs.Changed.{within-less}
 use Rattle.wb_store.proofs.Found.{is_itself}
@@ -221,6 +221,7 @@ module _ (m : Contents) (well : WellFormed m.metamodel) (s : Sound m) (h : House
   is_placed = placed-there wider well sound-wider m.next p f has
 
   rehoused : IsRehoused m (place m.next p f wider) p f m.next
+  unfolding relink
   rehoused = record {
     only = placed-only wider well sound-wider m.next p f has;
     stays = placed-stays wider well sound-wider m.next p f has;

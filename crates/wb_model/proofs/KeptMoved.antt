@@ -8,7 +8,7 @@ use Rattle.wb_model.specs.declared.refusals.ModelRefusal.TheVariants.{UnknownObj
 use Rattle.wb_store.specs.Contents.{Contents, kind, contains}
 use Rattle.wb_store.specs.Cells.{tree}
 use Rattle.wb_validity.specs.Valid.{IsValid}
-use Rattle.wb_store.specs.Relinking.{link, is_among, stands, without_root}
+use Rattle.wb_store.specs.Relinking.{link, relink, is_among, stands, without_root}
 use Rattle.wb_model.specs.Edits.{place, moved, is_live, is_full, may_contain, conforms_as, refusal_of_move, move_to}
 use Rattle.wb_model.proofs.FewerRoots.{among-filter, filter-among, once-filter}
 use Rattle.wb_model.proofs.KeptLinks.{and-true, not_refused, accepted, sound, housed, valid}
@@ -69,6 +69,7 @@ module _ (m : Contents) (well : WellFormed m.metamodel) (s : Sound m) (h : House
   is_there = placed-there rootless well sound-rootless o p f has
 
   rehoused : IsRehoused m (place o p f rootless) p f o
+  unfolding relink
   rehoused = record {
     only = placed-only rootless well sound-rootless o p f has;
     stays = placed-stays rootless well sound-rootless o p f has;
