@@ -1,16 +1,15 @@
 -- An operation by its head and what stands at its `do`.
-use Rattle.std.proofs.Common.{◌≡◌, ℕ, suc, Option, Some, None, Result, Ok, Err, option_map, refl, sym, ap, ◌∙◌, codes, Ordering, Less, Equal, Greater}
+use Rattle.std.proofs.Common.{◌≡◌, ℕ, suc, Option, Ok, Err, option_map, refl, ap, ◌∙◌, codes, Ordering, Less, Equal, Greater}
 use Rattle.std.specs.Ordering.{match_ordering, nat_cmp}
 use Rattle.std.specs.Cmp.Lexicographic.{slice_cmp}
 use Rattle.serde_json.specs.Data.{Data, null, boolean, number, string, array, object, Members, no_members, member}
 use Rattle.serde_json.specs.Find.{get, get_member}
-use Rattle.wb_json.specs.Place.{Place}
 use Rattle.wb_json.specs.Form.{Gives, ◌>>=◌}
 use Rattle.wb_json.specs.declared.wrong.Wrong.{Wrong}
 use Rattle.wb_json.specs.declared.wrong.Wrong.TheVariants.{At, NoMemory}
 use Rattle.wb_viewpoint.specs.Answers.{GivesTree, GivesTrees}
 use Rattle.wb_viewpoint.specs.OperationForms.{head_of, inside, operation_of, operations_of, done_in, with_inside}
-use Rattle.wb_viewpoint.specs.OperationTrees.{Tree, Trees, operation}
+use Rattle.wb_viewpoint.specs.OperationTrees.{Trees, operation}
 use Rattle.wb_viewpoint.specs.declared.operation_reader.Head.{Head}
 
 -- a choice by an order, seen through a function

@@ -9,7 +9,7 @@ use Rattle.wb_json.specs.Place.{Place, at_index}
 use Rattle.wb_json.specs.Form.{◌>>=◌}
 use Rattle.wb_viewpoint.specs.Answers.{GivesTree, GivesTrees}
 use Rattle.wb_viewpoint.specs.OperationForms.{operation_of, operations_from}
-use Rattle.wb_viewpoint.specs.OperationTrees.{Tree, Trees, no_trees, trees, count, count_all}
+use Rattle.wb_viewpoint.specs.OperationTrees.{Trees, no_trees, trees, count, count_all}
 use Rattle.wb_viewpoint.specs.View.{tree_of, trees_of}
 use Rattle.wb_viewpoint.specs.declared.operations.Operation.{Operation}
 use Rattle.wb_json.specs.declared.wrong.Wrong.{Wrong}

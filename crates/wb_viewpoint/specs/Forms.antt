@@ -1,11 +1,9 @@
 -- The forms of the parts of a viewpoint's text. Each visits an object, and then its members in their order.
-use Rattle.std.specs.Prelude.{ℕ, nat_le, Bool, true, false, if◌then◌else◌, List, [], ◌∷◌, length, Option, Some, None, unwrap_or, Result, Ok, Err, codes}
+use Rattle.std.specs.Prelude.{ℕ, nat_le, true, false, if◌then◌else◌, List, [], ◌∷◌, length, Some, None, unwrap_or, Result, Ok, Err, codes}
 use Rattle.serde_json.specs.Data.{Data}
 use Rattle.wb_json.specs.Place.{Place}
 use Rattle.wb_json.specs.Form.{◌>>=◌, bool_of, text_of, name_of, word_of, list_of, listed, needed, optional, list_or_empty}
-use Rattle.wb_viewpoint.specs.declared.edges.EdgeMapping.{EdgeMapping}
 use Rattle.wb_viewpoint.specs.declared.edges.Ends.{Ends}
-use Rattle.wb_viewpoint.specs.declared.edges.ObjectEdge.{ObjectEdge}
 use Rattle.wb_viewpoint.specs.declared.filters.Filter.{Filter}
 use Rattle.wb_viewpoint.specs.declared.layers.Layer.{Layer}
 use Rattle.wb_viewpoint.specs.declared.mappings.Mapping.{Mapping}

@@ -1,10 +1,9 @@
-use Rattle.std.proofs.Common.{◌≡◌, ◌<◌, ◌≤◌, ◌∙◌, ◌+◌, suc, sym, ap, Err, Ok, arith, rules, codes, drop, slice_get}
+use Rattle.std.proofs.Common.{◌<◌, ◌≤◌, ◌∙◌, sym, ap, Err, Ok, arith, rules, codes}
 use Rattle.serde_json.specs.Data.{depth, items_depth}
 use Rattle.serde_json.specs.View.{view, items_view}
 use Rattle.wb_viewpoint.specs.Answers.{GivesTree}
 use Rattle.wb_viewpoint.specs.OperationForms.{operation_of}
-use Rattle.wb_viewpoint.specs.OperationTrees.{count_all}
-use Rattle.wb_viewpoint.specs.View.{tree_of, trees_of}
+use Rattle.wb_viewpoint.specs.View.{trees_of}
 use Rattle.wb_viewpoint.proofs.Depths.{part_depth, array_depth, item_depth}
 use Rattle.wb_viewpoint.proofs.Turns.{goes_next, goes_end, count_one}
 use Rattle.wb_viewpoint.proofs.Steps.{operation_wrong, operation_right}
