@@ -6,7 +6,6 @@ use Rattle.std.specs.List.{list_any, flat_map}
 use Rattle.wb_metamodel.specs.WellFormed.{WellFormed}
 use Rattle.wb_store.specs.declared.scalars.Scalar.{Scalar}
 use Rattle.wb_store.specs.declared.scalars.Scalar.TheVariants.{Object}
-use Rattle.wb_store.specs.declared.scalars.Place.{Place}
 use Rattle.wb_store.specs.declared.scalars.Place.TheVariants.{Root, In as Inside}
 use Rattle.wb_model.specs.declared.refusals.ModelRefusal.TheVariants.{UnknownObject}
 use Rattle.std.specs.Option.{option_map_or}

@@ -1,5 +1,5 @@
 -- A move of an object keeps a model valid.
-use Rattle.std.proofs.Common.{◌≡◌, ℕ, Bool, true, false, not, ◌&&◌, [], ◌∷◌, None, refl, sym, subst, ◌∙◌, cond, eqb}
+use Rattle.std.proofs.Common.{◌≡◌, ℕ, true, false, not, ◌&&◌, [], ◌∷◌, None, refl, sym, subst, ◌∙◌, cond, eqb}
 use Rattle.std.proofs.lemmas.Bool.{false≢true, not-false, not-true, not_from_false, eq-eqb, ne_eqb, or_parts}
 use Rattle.std.specs.Prelude.{IsSome, Some, Ok}
 use Rattle.wb_metamodel.specs.WellFormed.{WellFormed}

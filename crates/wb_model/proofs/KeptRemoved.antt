@@ -1,5 +1,5 @@
 -- A removal keeps a model valid.
-use Rattle.std.proofs.Common.{◌≡◌, ℕ, ◌≤◌, Bool, true, false, not, List, [], ◌∷◌, Some, None, refl, sym, ap, subst, ◌∙◌, cond, arith, inl, ⊎_elim}
+use Rattle.std.proofs.Common.{◌≡◌, ℕ, ◌≤◌, true, false, not, List, [], ◌∷◌, Some, None, refl, sym, ap, subst, ◌∙◌, cond, arith, inl, ⊎_elim}
 use Rattle.std.proofs.lemmas.Bool.{false≢true, not-true, not_from_false, or_left, or_right, or_cases, or_parts, cases_Bool}
 use Rattle.std.proofs.lemmas.Option.{none-some}
 use Rattle.std.specs.Prelude.{filter, IsSome, Ok}

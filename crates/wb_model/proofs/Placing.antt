@@ -15,10 +15,10 @@ use Rattle.wb_store.specs.ScalarLaws.{same_decides}
 use Rattle.wb_store.specs.Contents.{Contents, kind, slot, is_containment, contains}
 use Rattle.wb_store.specs.Features.{opposite}
 use Rattle.wb_validity.specs.Valid.{room, is_of_class, is_of_kind, is_of_feature}
-use Rattle.wb_store.specs.Relinking.{Link, link, relink, both_ends, change, leads_to}
+use Rattle.wb_store.specs.Relinking.{Link, link, relink, both_ends, leads_to}
 use Rattle.wb_model.specs.Edits.{is_full, may_contain, refers_to, place}
 use Rattle.wb_model.proofs.Comings.{object_value}
-use Rattle.wb_model.proofs.Changed.{stay_at, IsKnown, fits-one, sound-relink, relink-Stands, relink-stays, relink-comes}
+use Rattle.wb_model.proofs.Changed.{stay_at, fits-one, sound-relink, relink-Stands, relink-stays, relink-comes}
 use Rattle.wb_model.proofs.Ends.{opposite-back, containment-one, Opposed, In-both_ends, ends-this, ends-that, ends-cases}
 use Rattle.wb_store.proofs.Filtered.{filter-few, filter-none}
 use Rattle.wb_model.proofs.KeptLinks.{one-space}

@@ -1,5 +1,5 @@
 -- What a valid model holds is in range.
-use Rattle.std.proofs.Common.{◌≡◌, ℕ, ◌^◌, true, false, not, ◌&&◌, length, Some, None, refl, sym, ap, arith, ltb}
+use Rattle.std.proofs.Common.{◌≡◌, ℕ, ◌^◌, true, false, not, ◌&&◌, length, Some, None, refl, arith, ltb}
 use Rattle.std.proofs.lemmas.Bool.{and_parts, false≢true, lt-ltb}
 use Rattle.std.proofs.lemmas.Bool.Decides.{nat_tests}
 use Rattle.std.proofs.lemmas.Option.{slice_get_within}
@@ -16,7 +16,7 @@ use Rattle.wb_metamodel.specs.Metamodel.{Metamodel, class_at, feature_at}
 use Rattle.wb_store.specs.declared.scalars.Scalar.{Scalar}
 use Rattle.wb_store.specs.declared.scalars.Scalar.TheVariants.{Int, Bool as Boolean, Text, Literal, Object}
 use Rattle.wb_store.specs.Contents.{Contents, Filled, members, kind}
-use Rattle.wb_store.proofs.Members.{In, In-all, all_In}
+use Rattle.wb_store.proofs.Members.{In-all, all_In}
 use Rattle.wb_validity.specs.Ranges.{is_in_range, AreInRange}
 use Rattle.wb_validity.specs.Valid.{is_abstract, is_of_kind, is_of_feature, Valid, IsValid}
 use Rattle.wb_validity.proofs.Trees.{live_if_of_kind}
