@@ -6,7 +6,7 @@ use Rattle.wb_validity.proofs.checks.check_linked.Goals as goal
 pub returns-in_err-check_first : goal.returns-in_err-check_first
 unfolding broken
 returns-in_err-check_first c =
-    let r = c.from_residual-in_err-check_first in
+    let r = c.from_residual in
     let p = err_from_is_err_and r.result r.ensures.1 in
     raised r.result p.0 c.in_err-check_first.field-0.0 _ _ p.1 p.2 c.in_err-check_first.ensures
 
