@@ -1,5 +1,5 @@
 -- Pieces of a connection.
-use Rattle.std.proofs.Common.{◌≡◌, refl, ◌∙◌, ℕ, ◌+◌, ◌<◌, ◌≤◌, List, [], ◌∷◌, ◌++◌, length, take, drop, min, map, get_or, Option, Some, ap, sym, subst, arith, append_assoc, length-drop}
+use Rattle.std.proofs.Common.{◌≡◌, refl, ◌∙◌, ℕ, ◌+◌, ◌<◌, ◌≤◌, List, [], ◌∷◌, ◌++◌, length, take, drop, min, map, get_or, Some, ap, sym, subst, arith, length-drop}
 use Rattle.std.specs.Global.{Vec}
 use Rattle.std.specs.List.{remove}
 use Rattle.std.proofs.lemmas.Grind.{common_steps}

@@ -1,7 +1,7 @@
 -- Files of the system: what they told, and the answer that is due by it.
 use Rattle.std.specs.Prelude.{◌≡◌, ℕ, ◌+◌, ◌-◌, ◌^◌, ◌<◌, ◌≤◌, ◌⊎◌, Bool, true, false, List, [], ◌∷◌, ◌++◌, length, take, not, Option, None, IsUtf8}
-use Rattle.wb_outer.specs.Shelf.{ShelfTold, file_limit, has_failed}
-use Rattle.wb_outer.specs.Faults.{counted}
+use Rattle.std.specs.Io.KnownBytes.{Consumes, Keeps, IsAtEnd}
+use Rattle.wb_outer.specs.Shelf.{ShelfTold, file_limit}
 use Rattle.wb_outer.specs.declared.shelf.Call.{Call}
 use Rattle.wb_outer.specs.declared.shelf.Taken.{Taken}
 use Rattle.wb_outer.specs.declared.shelf.Taken.TheVariants.{Bytes, TooBig, Failed}
@@ -26,6 +26,13 @@ FitsPart (PartBytes n) room = (0 < n) × (n ≤ length room)
 FitsPart End room = Unit {0}
 FitsPart Interrupted room = Unit {0}
 FitsPart PartFailed room = Unit {0}
+
+-- a read of a reader whose bytes are known: the next ones, and `End` at their end alone
+abbrev pub PartOf : Option (List ℕ) → Option (List ℕ) → List ℕ → Part → Type 0
+PartOf old new room (PartBytes n) = Consumes old new (take n room)
+PartOf old new room End = IsAtEnd new
+PartOf old new room Interrupted = Keeps old new
+PartOf old new room PartFailed = Keeps old new
 
 -- so many reads are made at most
 abbrev pub rounds : ℕ

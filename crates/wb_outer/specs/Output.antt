@@ -1,5 +1,6 @@
 -- The output of the system: what it told, and what a whole piece comes to.
-use Rattle.std.specs.Prelude.{◌≡◌, ℕ, ◌+◌, ◌<◌, ◌≤◌, ◌⊎◌, List, [], ◌∷◌, ◌++◌, length, take}
+use Rattle.std.specs.Prelude.{◌≡◌, ℕ, ◌+◌, ◌<◌, ◌≤◌, ◌⊎◌, List, ◌++◌, length, take, Option}
+use Rattle.std.specs.Io.KnownBytes.{Appends, Keeps}
 use Rattle.wb_outer.specs.Sink.{SinkTold}
 use Rattle.wb_outer.specs.Files.{rounds}
 use Rattle.wb_outer.specs.declared.output.OutputTold.{OutputTold}
@@ -19,6 +20,12 @@ abbrev pub IsPart : Put → List ℕ → Type 0
 IsPart (Took n) bytes = (0 < n) × (n ≤ length bytes)
 IsPart Interrupted bytes = Unit {0}
 IsPart PutFailed bytes = Unit {0}
+
+-- a write to a writer whose bytes are known: those that were taken are appended
+abbrev pub PutOf : Option (List ℕ) → Option (List ℕ) → List ℕ → Put → Type 0
+PutOf old new bytes (Took n) = Appends old new (take n bytes)
+PutOf old new bytes Interrupted = Keeps old new
+PutOf old new bytes PutFailed = Unit {0}
 
 -- a write failed otherwise than by an interruption, or none was left to make
 abbrev pub HasCause : OutputTold → OutputTold → Type 0

@@ -1,7 +1,7 @@
 -- Connections as lists of pieces.
 use Rattle.std.specs.Prelude.{◌≡◌, ℕ, ◌<◌, ⊤, List, [], ◌∷◌, ◌++◌, length, take, drop, min, map, Option, Some}
 use Rattle.std.specs.Global.{Vec}
-use Rattle.wb_outer.specs.Door.{Connection, ToCome, DoorTold}
+use Rattle.wb_outer.specs.Door.{Connection, DoorTold}
 use Rattle.wb_outer.specs.declared.door.Next.{Next}
 use Rattle.wb_outer.specs.declared.door.Next.TheVariants.{Line as IsLine, Closed, Failed as NextFailed}
 use Rattle.wb_outer.specs.declared.door.Got.{Got}

@@ -1,5 +1,5 @@
 ghost use Rattle.std.specs.Prelude.{◌≡◌, ◌++◌, ◌+◌, ◌∷◌, [], false, ◌<◌, length};
-ghost use Rattle.wb_outer.specs.Files.{after_open, after_part, FitsPart};
+ghost use Rattle.wb_outer.specs.Files.{after_open, after_part, FitsPart, PartOf};
 
 use crate::log::Log;
 use crate::steps::Steps;
@@ -114,18 +114,28 @@ impl SystemFiles {
     }
 }
 
-// What a read of a file comes to. No file is open where one could not be opened.
-fn read_part(file: &mut Option<File>, room: &mut [u8]) -> Part
-    ensures { FitsPart result room.new }
+/// What one read comes to. An interrupted one is told apart from one that failed.
+pub fn read_part<R: Read>(from: &mut R, room: &mut [u8]) -> Part
+    requires { 0 < length room.old }
+    ensures fits { FitsPart result room.new }
+    ensures known { PartOf (R.remaining from.old) (R.remaining from.new) room.new result }
 {
-    let Some(file) = file else {
-        return Part::Failed;
-    };
-    match file.read(room) {
+    match from.read(room) {
         Ok(0) => Part::End,
         Ok(count) => Part::Bytes(count),
         Err(error) if error.kind() == ErrorKind::Interrupted => Part::Interrupted,
         Err(_) => Part::Failed,
+    }
+}
+
+// A read where no file is open fails.
+fn read_open(file: &mut Option<File>, room: &mut [u8]) -> Part
+    requires { 0 < length room.old }
+    ensures { FitsPart result room.new }
+{
+    match file {
+        Some(file) => read_part(file, room),
+        None => Part::Failed,
     }
 }
 
@@ -140,7 +150,7 @@ impl Files for SystemFiles {
     }
 
     fn read(&mut self, room: &mut [u8]) -> Part {
-        let part = read_part(&mut self.file, room);
+        let part = read_open(&mut self.file, room);
         self.told.note_read(part, room);
         part
     }

@@ -1,5 +1,5 @@
 ghost use Rattle.std.specs.Prelude.{◌≡◌, ◌<◌, [], length};
-ghost use Rattle.wb_outer.specs.Output.{after_put, IsPart};
+ghost use Rattle.wb_outer.specs.Output.{after_put, IsPart, PutOf};
 
 use crate::log::Log;
 use crate::steps::Steps;
@@ -89,11 +89,12 @@ impl SystemOutput {
     }
 }
 
-// What a write comes to. One that takes nothing has failed.
-fn put_in<W: Write>(writer: &mut W, bytes: &[u8]) -> Put
-    ensures { IsPart result bytes.now }
+/// What one write comes to. One that takes nothing has failed, and an interrupted one is told apart.
+pub fn put_part<W: Write>(to: &mut W, bytes: &[u8]) -> Put
+    ensures part { IsPart result bytes.now }
+    ensures known { PutOf (W.contents to.old) (W.contents to.new) bytes.now result }
 {
-    match writer.write(bytes) {
+    match to.write(bytes) {
         Ok(0) => Put::Failed,
         Ok(count) => Put::Took(count),
         Err(error) if error.kind() == ErrorKind::Interrupted => Put::Interrupted,
@@ -105,7 +106,7 @@ impl Output for SystemOutput {
     ghost told = { λ o. o.told };
 
     fn put(&mut self, bytes: &[u8]) -> Put {
-        let put = put_in(&mut io::writer(&self.rt), bytes);
+        let put = put_part(&mut io::writer(&self.rt), bytes);
         self.told.note(put, bytes);
         put
     }

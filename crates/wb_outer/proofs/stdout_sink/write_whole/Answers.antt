@@ -1,4 +1,4 @@
-use Rattle.std.proofs.Common.{◌≡◌, ◌∙◌, ◌≤◌, ◌<◌, ◌+◌, ◌++◌, inl, take, length, drop, ◌-◌, ap, arith, rules, List, ℕ}
+use Rattle.std.proofs.Common.{◌∙◌, ◌++◌, inl, take, length, drop, ◌-◌, ap, arith, rules, List, ℕ}
 use Rattle.wb_outer.specs.declared.output.OutputTold.{OutputTold}
 use Rattle.wb_outer.proofs.Puts.{take_on}
 use Rattle.wb_outer.proofs.stdout_sink.write_whole.Goals as goal
