@@ -1,5 +1,6 @@
 //! Files that are interrupted, fail, and give little at a time; and one of the system.
 ghost use Rattle.std.specs.Prelude.{◌<◌, length};
+ghost use Rattle.wb_outer.specs.Files.{FitsPart};
 
 use crate::shelves::push_taken;
 use crate::shown::{as_text, line, spelled};
@@ -26,6 +27,7 @@ fn no_file_yet(rt: &HostRuntime) -> Named {
 // The first character that is left decides.
 fn part(left: &mut Vec<u8>, room: &mut [u8]) -> Part
     requires { 0 < length room.old }
+    ensures { FitsPart result room.new }
 {
     if left.is_empty() {
         return Part::End;

@@ -49,7 +49,7 @@ impl Output for Narrow {
 
 pub fn push(alloc: Global, shown: &mut String) -> Result<(), AllocError> {
     let mut sink = StdoutSink::over(taking(2));
-    push_written(shown, &mut sink, &["four", "iv", "", "abf"])?;
+    push_written(shown, &mut sink, &["slow", "iv", "", "abf"])?;
     push_large(alloc, shown)?;
     push_puts(alloc, shown)
 }
