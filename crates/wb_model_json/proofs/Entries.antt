@@ -16,7 +16,7 @@ of-T : (b : Bool) → T b → b ≡ true
 of-T true h = refl
 of-T false h = absurd h
 
-not_below_itself : {K : Type 0} {R : K → K → Ordering} → IsTotalOrder R → (k : K) → is_lt (R k k) ≡ true → ⊥
+pub not_below_itself : {K : Type 0} {R : K → K → Ordering} → IsTotalOrder R → (k : K) → is_lt (R k k) ≡ true → ⊥
 not_below_itself total k h = false≢true (sym (ap is_lt (tied_itself total k)) ∙ h)
 
 module _ {K X : Type 0} {R : K → K → Ordering} (total : IsTotalOrder R) (same : IsAntisymmetric R) where

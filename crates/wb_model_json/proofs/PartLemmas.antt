@@ -1,15 +1,24 @@
 -- What is true of the objects of a text over a metamodel.
-use Rattle.std.proofs.Common.{◌≡◌, ◌<◌, ◌≤◌, ℕ, ◌+◌, Bool, true, false, List, [], ◌∷◌, map, length, Option, Some, None, Result, Ok, Err, refl, sym, ap, ◌∙◌, subst, cond, nat_le, arith}
-use Rattle.std.specs.Prelude.{⊤, codes, is_some}
-use Rattle.std.specs.List.{list_all, enumerate_from}
-use Rattle.std.proofs.lemmas.Bool.{and_from, lt-ltb, leb-true, false≢true}
+use Rattle.std.proofs.Common.{◌≡◌, ◌<◌, ◌≤◌, ℕ, ◌+◌, true, false, List, [], ◌∷◌, map, length, Option, Some, None, Result, Ok, Err, refl, sym, ap, ◌∙◌, subst, cond, eqb, nat_le, arith}
+use Rattle.std.specs.Prelude.{⊤, codes}
+use Rattle.std.specs.List.{list_all, find, enumerate_from, AllByRecursion}
+use Rattle.std.specs.Option.{option_map_or, option_or}
+use Rattle.std.specs.Ordering.{nat_cmp, is_lt}
+use Rattle.std.specs.Cmp.Lexicographic.{slice_cmp}
+use Rattle.std.proofs.lemmas.Bool.{and_parts, and_from, lt-ltb, leb-true, eqb-true, false≢true, not_from_false, false_from_ne_true}
+use Rattle.std.proofs.lemmas.Cmp.{nat_list_cmp_total}
 use Rattle.std.proofs.lemmas.List.{length-map}
 use Rattle.std.proofs.lemmas.List.Folds.{list_all-map}
-use Rattle.std.proofs.lemmas.Option.{slice_get_within}
-use Rattle.wb_json.specs.Place.{Place, at_member, within}
+use Rattle.std.proofs.lemmas.Option.{slice_get_within, same_Some}
+use Rattle.wb_base.proofs.ListLemmas.{map-map}
+use Rattle.wb_base.specs.Results.{◌>>=◌}
+use Rattle.wb_base.proofs.Steps.{then_ok, same_ok}
+use Rattle.wb_json.proofs.Found.{within_ok, or_wrong_ok, coded_ok}
+use Rattle.wb_json.specs.Place.{Place, at_member}
 use Rattle.wb_json.specs.Form.{in_turn, or_wrong}
-use Rattle.wb_json.specs.Form as form
-use Rattle.wb_metamodel.specs.Metamodel.{Metamodel, class_named, feature_at}
+use Rattle.wb_json.specs.Refusals.{coded}
+use Rattle.wb_metamodel.specs.Metamodel.{Metamodel, class_named, feature_at, feature_named, features_of, numbers, same_name}
+use Rattle.wb_metamodel.specs.Checks.{is_name_of}
 use Rattle.wb_ecore.specs.Resolving.{in_place, walked}
 use Rattle.wb_metamodel.proofs.Ranges.{class_in_range}
 use Rattle.wb_ecore.specs.declared.features.Feature.{Feature}
@@ -20,126 +29,105 @@ use Rattle.wb_store.specs.declared.records.Record.{Record}
 use Rattle.wb_store.specs.Parts.{slot_of, record_of, AreParts}
 use Rattle.wb_store.specs.Records.{is_known, is_known_slot, feature_of as slot_feature, id_of as record_id}
 use Rattle.wb_store.specs.Places.{once}
+use Rattle.wb_store.proofs.Members.{In-all, In-map, map-In}
+use Rattle.wb_validity.proofs.LinkLemmas.{any_found}
 use Rattle.wb_model_json.specs.declared.model_text.SlotText.{SlotText}
 use Rattle.wb_model_json.specs.declared.model_text.ObjectText.{ObjectText}
 use Rattle.wb_model_json.specs.declared.model_text.ModelText.{ModelText}
-use Rattle.wb_model_json.specs.declared.refusal.ModelCode.{ModelCode}
 use Rattle.wb_model_json.specs.declared.refusal.ModelCode.TheVariants.{TooMany, DuplicateObject, UnknownName}
-use Rattle.wb_model_json.specs.Refusals.{◌>>=◌, coded}
-use Rattle.wb_model_json.specs.ModelFile.{repeat_from, has_repeat, values_for, slot_with, slot_named, feature_for, slot_for, slots_for, feature_of, part_with, part_for, parts_for, few, id_of, repeated_at, unrepeated, checked_parts}
+use Rattle.wb_model_json.specs.ModelFile.{values_for, slot_with, slot_named, feature_for, slot_for, slots_for, part_with, part_for, parts_for, few, id_of, repeated_at, unrepeated, checked_parts}
+use Rattle.wb_model_json.specs.Rows.{names_ascend}
+use Rattle.wb_model_json.specs.Written.{feature_name}
 use Rattle.wb_model_json.proofs.Differing.{differing}
+use Rattle.wb_model_json.proofs.Entries.{not_below_itself}
+use Rattle.wb_model_json.proofs.RowsSound.{same-text}
+use Rattle.wb_model_json.proofs.Walks.{find-own, turned, turn-passes, turn-keeps}
+use Rattle.wb_model_json.proofs.TextNames.{SlotsAscend}
 
--- ---- steps that found something
-
-record Found {A B E : Type 0} (r : Result A E) (next : A → Result B E) (y : B) : Type 0 where
-  value : A
-  is : r ≡ Ok value
-  then : next value ≡ Ok y
-
-found : {A B E : Type 0} (r : Result A E) (next : A → Result B E) (y : B) → (r >>= next) ≡ Ok y → Found r next y
-found (Ok x) next y h = record { value = x; is = refl; then = h }
-found (Err e) next y h = cc
-
-found_within : {A : Type 0} (step : Place) (r : Result A Place) (x : A) → within step r ≡ Ok x → r ≡ Ok x
-found_within step (Ok v) x h = h
-found_within step (Err p) x h = cc
-
-same_value : {A E : Type 0} (x y : A) → ◌≡◌ {A = Result A E} (Ok x) (Ok y) → x ≡ y
-same_value x y h = cc
-
-found_coded : {A : Type 0} (code : ModelCode) (r : Result A Place) (x : A) → coded code r ≡ Ok x → r ≡ Ok x
-found_coded code (Ok v) x h = ap Ok (same_value v x h)
-found_coded code (Err p) x h = cc
-
-found_some : {A : Type 0} (o : Option A) (x : A) → or_wrong o ≡ Ok x → o ≡ Some x
-found_some (Some v) x h = cc
-found_some None x h = cc
-
-same_Ok : {A : Type 0} (x y : A) → ◌≡◌ {A = Result A Place} (Ok x) (Ok y) → x ≡ y
-same_Ok x y h = cc
-
--- ---- walks
-
-module _ {A B : Type 0} (step : A → Result B Place) where
-  turn_passes : (p : B → Bool) → ((x : A) (y : B) → step x ≡ Ok y → p y ≡ true) → (xs : List A) (ys : List B) → in_turn step xs ≡ Ok ys → list_all p ys ≡ true
-  turn_passes p h [] ys e = subst (λ (ys : List B). list_all p ys ≡ true) (same_Ok [] ys e) refl
-  turn_passes p h (x ∷ xs) ys e = step_passes (step x) (in_turn step xs) (h x) (turn_passes p h xs) e
-    where
-      step_passes : (r : Result B Place) (s : Result (List B) Place) → ((y : B) → r ≡ Ok y → p y ≡ true) → ((zs : List B) → s ≡ Ok zs → list_all p zs ≡ true) → form.◌>>=◌ r (λ y. form.◌>>=◌ s (λ ys. Ok (y ∷ ys))) ≡ Ok ys → list_all p ys ≡ true
-      step_passes (Ok y) (Ok zs) f g e = subst (λ (ys : List B). list_all p ys ≡ true) (same_Ok (y ∷ zs) ys e) (and_from _ _ (f y refl) (g zs refl))
-      step_passes (Ok y) (Err q) f g e = cc
-      step_passes (Err q) s f g e = cc
-
-  turn_keeps : {C : Type 0} (f : A → C) (g : B → C) → ((x : A) (y : B) → step x ≡ Ok y → g y ≡ f x) → (xs : List A) (ys : List B) → in_turn step xs ≡ Ok ys → map g ys ≡ map f xs
-  turn_keeps f g h [] ys e = ap (map g) (sym (same_Ok [] ys e))
-  turn_keeps f g h (x ∷ xs) ys e = step_keeps (step x) (in_turn step xs) (h x) (turn_keeps f g h xs) e
-    where
-      step_keeps : (r : Result B Place) (s : Result (List B) Place) → ((y : B) → r ≡ Ok y → g y ≡ f x) → ((zs : List B) → s ≡ Ok zs → map g zs ≡ map f xs) → form.◌>>=◌ r (λ y. form.◌>>=◌ s (λ ys. Ok (y ∷ ys))) ≡ Ok ys → map g ys ≡ f x ∷ map f xs
-      step_keeps (Ok y) (Ok zs) a b e = ap (map g) (sym (same_Ok (y ∷ zs) ys e)) ∙ (λ i. a y refl i ∷ b zs refl i)
-      step_keeps (Ok y) (Err q) a b e = cc
-      step_keeps (Err q) s a b e = cc
+abbrev feature_of : SlotPart → ℕ
+feature_of slot = slot.feature
 
 map-enumerated : {A C : Type 0} (f : A → C) (i : ℕ) (xs : List A) → map (λ (e : ℕ × A). f e.1) (enumerate_from i xs) ≡ map f xs
 map-enumerated f i [] = refl
 map-enumerated f i (x ∷ xs) = ap (λ ys. f x ∷ ys) (map-enumerated f (i + 1) xs)
 
-map-map : {A B C : Type 0} (f : A → B) (g : B → C) (xs : List A) → map g (map f xs) ≡ map (λ x. g (f x)) xs
-map-map f g [] = refl
-map-map f g (x ∷ xs) = ap (λ ys. g (f x) ∷ ys) (map-map f g xs)
-
 -- ---- a slot
 
-slot_known : (mm : Metamodel) (text : SlotText) (f : ℕ) (slot : SlotPart) → slot_with mm text f ≡ Ok slot → is_known_slot mm (slot_of slot) ≡ true
+slot_known : (mm : Metamodel) (text : SlotText) (f : ℕ) (slot : SlotPart) → slot_with mm text f ≡ Ok slot → (is_known_slot mm (slot_of slot) ≡ true) × (slot.feature ≡ f)
 unfolding slot_with
 slot_known mm text f slot h =
-    let at = found (or_wrong (feature_at mm f)) (λ (feature : Feature). values_for mm feature.kind text >>= (λ (values : List Scalar). Ok (record { feature = f; listed = text.listed; values = values }))) slot h in
-    let values = found (values_for mm at.value.kind text) (λ (values : List Scalar). Ok (record { feature = f; listed = text.listed; values = values })) slot at.then in
-    let same = same_Ok (record { feature = f; listed = text.listed; values = values.value }) slot values.then in
-    lt-ltb slot.feature (length mm.features) (subst (λ (s : SlotPart). s.feature < length mm.features) same (slice_get_within mm.features f at.value (found_some (feature_at mm f) at.value at.is)))
+    let at = then_ok (or_wrong (feature_at mm f)) (λ (feature : Feature). values_for mm feature.kind text >>= (λ (values : List Scalar). Ok (record { feature = f; listed = text.listed; values = values }))) slot h in
+    let values = then_ok (values_for mm at.0.kind text) (λ (values : List Scalar). Ok (record { feature = f; listed = text.listed; values = values })) slot at.2 in
+    let same = same_ok (record { feature = f; listed = text.listed; values = values.0 }) slot values.2 in (
+      lt-ltb slot.feature (length mm.features) (subst (λ (s : SlotPart). s.feature < length mm.features) same (slice_get_within mm.features f at.0 (or_wrong_ok (feature_at mm f) at.0 at.1))),
+      sym (ap feature_of same),
+    )
 
-slot_for-known : (mm : Metamodel) (class : ℕ) (member : List ℕ × SlotText) (slot : SlotPart) → slot_for mm class member ≡ Ok slot → is_known_slot mm (slot_of slot) ≡ true
+-- the feature of a name has this name
+has-name : (mm : Metamodel) (name : List ℕ) (f : ℕ) → is_name_of mm name f ≡ true → feature_name mm f ≡ name
+has-name mm name f h = elim (feature_at mm f) as (λ o. option_map_or (λ (feature : Feature). same_name feature.name name) o false ≡ true → option_map_or (λ (feature : Feature). feature.name) o [] ≡ name) [
+  | None ↦ λ h. absurd (false≢true h)
+  | Some feature ↦ λ h. same-text feature.name name h
+] h
+
+feature_for-named : (mm : Metamodel) (class : ℕ) (name : List ℕ) (f : ℕ) → feature_for mm class name ≡ Some f → feature_name mm f ≡ name
+feature_for-named mm class name f h = has-name mm name f
+    (elim (feature_named mm class name) as (λ o. feature_named mm class name ≡ o → option_or o (find (is_name_of mm name) (numbers (length mm.features))) ≡ Some f → is_name_of mm name f ≡ true) [
+      | None ↦ λ is h. (find-own (is_name_of mm name) (numbers (length mm.features)) f h).1
+      | Some g ↦ λ is h. subst (λ g. is_name_of mm name g ≡ true) (same_Some g f h) (find-own (is_name_of mm name) (features_of mm class) g is).1
+    ] refl h)
+
+slot_for-known : (mm : Metamodel) (class : ℕ) (member : List ℕ × SlotText) (slot : SlotPart) → slot_for mm class member ≡ Ok slot → (is_known_slot mm (slot_of slot) ≡ true) × (feature_name mm slot.feature ≡ member.0)
 unfolding slot_named
 slot_for-known mm class member slot h =
-    let named = found (or_wrong (feature_for mm class member.0)) (slot_with mm member.1) slot (found_within _ _ slot h) in
-    slot_known mm member.1 named.value slot named.then
+    let named = then_ok (or_wrong (feature_for mm class member.0)) (slot_with mm member.1) slot (within_ok _ _ slot h) in
+    let known = slot_known mm member.1 named.0 slot named.2 in
+    (known.0, ap (feature_name mm) known.1 ∙ feature_for-named mm class member.0 named.0 (or_wrong_ok _ named.0 named.1))
+
+-- features of names that differ differ
+names-once : (mm : Metamodel) (slots : List SlotPart) → names_ascend (map (λ (slot : SlotPart). feature_name mm slot.feature) slots) ≡ true → once (map (λ (slot : SlotPart). feature_of slot) slots) ≡ true
+names-once mm [] h = refl
+names-once mm (slot ∷ slots) h =
+    let parts = and_parts _ _ h in
+    and_from _ _ (not_from_false _ (false_from_ne_true _ (λ again.
+    let f = any_found (λ other. eqb other slot.feature) (map feature_of slots) again in
+    let p = map-In feature_of slots f.0 f.1 in
+    let below = In-all (λ other. is_lt (slice_cmp nat_cmp (feature_name mm slot.feature) other)) (map (λ (slot : SlotPart). feature_name mm slot.feature) slots) (feature_name mm p.0.feature) parts.0 (In-map (λ (slot : SlotPart). feature_name mm slot.feature) slots p.0 p.1) in
+    not_below_itself nat_list_cmp_total (feature_name mm slot.feature) (subst (λ g. is_lt (slice_cmp nat_cmp (feature_name mm slot.feature) (feature_name mm g)) ≡ true) (sym p.2 ∙ eqb-true _ _ f.2) below))))
+    (names-once mm slots parts.1)
 
 -- ---- an object
 
 record IsPartOf (mm : Metamodel) (text : ObjectText) (part : Part) : Type 0 where
   same_id : part.id ≡ text.id
   known : is_known mm (record_of part) ≡ true
-  features_once : once (map slot_feature (record_of part).slots) ≡ true
-
-none_repeated : (ns : List ℕ) → has_repeat ns ≡ false → repeat_from 0 [] ns ≡ None
-none_repeated ns h = elim (repeat_from 0 [] ns) as (λ o. is_some o ≡ false → o ≡ None) [
-  | None ↦ λ h. refl
-  | Some i ↦ λ h. absurd (false≢true (sym h))
-] h
-
-record Passed (test : Bool) (x y : Part) : Type 0 where
-  off : test ≡ false
-  same : x ≡ y
-
-passed : (test : Bool) (x y : Part) → ◌≡◌ {A = Result Part Place} (cond test (Err []) (Ok x)) (Ok y) → Passed test x y
-passed true x y h = cc
-passed false x y h = record { off = refl; same = same_Ok x y h }
+  features_once : SlotsAscend text → once (map slot_feature (record_of part).slots) ≡ true
 
 part_of : (mm : Metamodel) (text : ObjectText) (part : Part) → part_for mm text ≡ Ok part → IsPartOf mm text part
 unfolding part_for
 part_of mm text part h =
-    let named = found (at_member (codes "class") (or_wrong (class_named mm text.class))) (λ (class : ℕ). slots_for mm class text.slots >>= part_with text class) part h in
-    let slots = found (slots_for mm named.value text.slots) (part_with text named.value) part named.then in
-    let made = passed (has_repeat (map feature_of slots.value)) (record { id = text.id; class = named.value; slots = slots.value }) part slots.then in
-    let class_known = lt-ltb named.value (length mm.classes) (class_in_range mm text.class named.value (found_some _ _ (found_within _ _ named.value named.is))) in
-    let slots_known = list_all-map (is_known_slot mm) slot_of slots.value ∙ turn_passes (slot_for mm named.value) (λ slot. is_known_slot mm (slot_of slot)) (slot_for-known mm named.value) text.slots slots.value (found_within _ _ slots.value slots.is) in
-    subst (IsPartOf mm text) made.same (record {
+    let named = then_ok (at_member (codes "class") (or_wrong (class_named mm text.class))) (λ (class : ℕ). slots_for mm class text.slots >>= part_with text class) part h in
+    let slots = then_ok (slots_for mm named.0 text.slots) (part_with text named.0) part named.2 in
+    let read = within_ok _ _ slots.0 slots.1 in
+    let class_known = lt-ltb named.0 (length mm.classes) (class_in_range mm text.class named.0 (or_wrong_ok _ _ (within_ok _ _ named.0 named.1))) in
+    let slots_known = list_all-map (is_known_slot mm) slot_of slots.0 ∙ turn-passes (slot_for mm named.0) (λ slot. is_known_slot mm (slot_of slot)) (λ y s e. (slot_for-known mm named.0 y s e).0) text.slots slots.0 read in
+    subst (IsPartOf mm text) (same_ok (record { id = text.id; class = named.0; slots = slots.0 }) part slots.2) (record {
       same_id = refl;
       known = and_from _ _ class_known slots_known;
-      features_once = ap once (map-map slot_of slot_feature slots.value) ∙ differing (map feature_of slots.value) (none_repeated (map feature_of slots.value) made.off);
+      features_once = λ ascend.
+          ap once (map-map slot_feature slot_of slots.0)
+          ∙ names-once mm slots.0 (ap names_ascend (turn-keeps (slot_for mm named.0) (λ (y : List ℕ × SlotText). y.0) (λ (slot : SlotPart). feature_name mm slot.feature) (λ y s e. (slot_for-known mm named.0 y s e).1) text.slots slots.0 read) ∙ ascend);
     })
 
 placed_part : (mm : Metamodel) (e : ℕ × ObjectText) (part : Part) → in_place (part_for mm) e ≡ Ok part → IsPartOf mm e.1 part
-placed_part mm e part h = part_of mm e.1 part (found_within _ (part_for mm e.1) part h)
+placed_part mm e part h = part_of mm e.1 part (within_ok _ (part_for mm e.1) part h)
+
+each_once : (mm : Metamodel) (i : ℕ) (texts : List ObjectText) (parts : List Part) → AllByRecursion SlotsAscend texts → in_turn (in_place (part_for mm)) (enumerate_from i texts) ≡ Ok parts → list_all (λ part. once (map slot_feature (record_of part).slots)) parts ≡ true
+each_once mm i [] parts all h = subst (λ (parts : List Part). list_all (λ part. once (map slot_feature (record_of part).slots)) parts ≡ true) (same_ok [] parts h) refl
+each_once mm i (text ∷ texts) parts all h =
+    let w = turned (in_place (part_for mm)) (i, text) (enumerate_from (i + 1) texts) parts h in
+    subst (λ (parts : List Part). list_all (λ part. once (map slot_feature (record_of part).slots)) parts ≡ true) (sym w.all)
+    (and_from _ _ ((placed_part mm (i, text) w.first w.made).features_once all.0) (each_once mm (i + 1) texts w.others all.1 w.made_on))
 
 -- ---- all objects
 
@@ -154,21 +142,21 @@ none_at None x h = refl
 none_at (Some i) x h = cc
 
 -- what is asked of the objects of a model that is built
-pub are_parts : (mm : Metamodel) (text : ModelText) (parts : List Part) → checked_parts mm text ≡ Ok parts → AreParts mm parts
+pub are_parts : (mm : Metamodel) (text : ModelText) (parts : List Part) → AllByRecursion SlotsAscend text.objects → checked_parts mm text ≡ Ok parts → AreParts mm parts
 unfolding checked_parts
-are_parts mm text parts h =
-    let one = found (coded TooMany (few text.objects)) (λ (_ : ⊤). coded DuplicateObject (unrepeated text.objects) >>= (λ (_ : ⊤). coded UnknownName (parts_for mm text.objects))) parts h in
-    let two = found (coded DuplicateObject (unrepeated text.objects)) (λ (_ : ⊤). coded UnknownName (parts_for mm text.objects)) parts one.then in
-    let given = found_within _ (walked (part_for mm) text.objects) parts (found_coded UnknownName (parts_for mm text.objects) parts two.then) in
-    let count = few_enough (length text.objects) one.value (found_coded TooMany (few text.objects) one.value one.is) in
-    let differ = differing (map id_of text.objects) (none_at _ two.value (found_coded DuplicateObject (unrepeated text.objects) two.value two.is)) in
-    let ids = map-map record_of record_id parts
-    ∙ turn_keeps (in_place (part_for mm)) (λ (e : ℕ × ObjectText). id_of e.1) (λ part. record_id (record_of part)) (λ e part p. (placed_part mm e part p).same_id) (enumerate_from 0 text.objects) parts given
+are_parts mm text parts ascend h =
+    let one = then_ok (coded TooMany (few text.objects)) (λ (_ : ⊤). coded DuplicateObject (unrepeated text.objects) >>= (λ (_ : ⊤). coded UnknownName (parts_for mm text.objects))) parts h in
+    let two = then_ok (coded DuplicateObject (unrepeated text.objects)) (λ (_ : ⊤). coded UnknownName (parts_for mm text.objects)) parts one.2 in
+    let read = within_ok _ (walked (part_for mm) text.objects) parts (coded_ok UnknownName (parts_for mm text.objects) parts two.2) in
+    let count = few_enough (length text.objects) one.0 (coded_ok TooMany (few text.objects) one.0 one.1) in
+    let differ = differing (map id_of text.objects) (none_at _ two.0 (coded_ok DuplicateObject (unrepeated text.objects) two.0 two.1)) in
+    let ids = map-map record_id record_of parts
+    ∙ turn-keeps (in_place (part_for mm)) (λ (e : ℕ × ObjectText). id_of e.1) (λ part. record_id (record_of part)) (λ e part p. (placed_part mm e part p).same_id) (enumerate_from 0 text.objects) parts read
     ∙ map-enumerated id_of 0 text.objects in
     let many = sym (length-map parts record_of) ∙ sym (length-map (map record_of parts) record_id) ∙ ap (λ (ns : List ℕ). length ns) ids ∙ length-map text.objects id_of in
     record {
-      known = list_all-map (is_known mm) record_of parts ∙ turn_passes (in_place (part_for mm)) (λ part. is_known mm (record_of part)) (λ e part p. (placed_part mm e part p).known) (enumerate_from 0 text.objects) parts given;
+      known = list_all-map (is_known mm) record_of parts ∙ turn-passes (in_place (part_for mm)) (λ part. is_known mm (record_of part)) (λ e part p. (placed_part mm e part p).known) (enumerate_from 0 text.objects) parts read;
       objects_once = ap once ids ∙ differ;
-      features_once = list_all-map (λ (r : Record). once (map slot_feature r.slots)) record_of parts ∙ turn_passes (in_place (part_for mm)) (λ part. once (map slot_feature (record_of part).slots)) (λ e part p. (placed_part mm e part p).features_once) (enumerate_from 0 text.objects) parts given;
+      features_once = list_all-map (λ (r : Record). once (map slot_feature r.slots)) record_of parts ∙ each_once mm 0 text.objects parts ascend read;
       few = omega (arith, count, many);
     }

@@ -14,7 +14,8 @@ use Rattle.std.specs.Cmp.Lexicographic.{slice_cmp}
 use Rattle.serde_json.specs.Data.{Data, string, object, no_members, member}
 use Rattle.serde_json.specs.Read.{read}
 use Rattle.wb_json.specs.Place.{Place}
-use Rattle.wb_json.specs.Form.{◌>>=◌, in_turn, or_wrong, is_name, members_of, object_with}
+use Rattle.wb_base.specs.Results.{◌>>=◌}
+use Rattle.wb_json.specs.Form.{in_turn, or_wrong, is_name, members_of, object_with}
 use Rattle.wb_json.specs.Json.{json_of}
 use Rattle.wb_json.specs.ToJson.{members_json}
 use Rattle.wb_json.proofs.JsonTexts.{json_of_text}
@@ -35,14 +36,14 @@ use Rattle.wb_model_json.specs.ModelFile.{value_for, values_for}
 use Rattle.wb_model_json.specs.ModelText.{slot_of}
 use Rattle.wb_model_json.specs.RowText.{row_text_of, counted, row_slot_with, row_slot_for, row_with, row_for, row_from}
 use Rattle.wb_model_json.specs.Rows.{slot_name, row_slot, data_of_row, text_of_row, names_ascend, IsSaid, IsRowSlot, IsRow, IsTextOf, slot_row}
-use Rattle.wb_model_json.specs.Sayable.{is_sayable}
+use Rattle.wb_validity.specs.Ranges.{is_in_range}
 use Rattle.wb_model_json.specs.Written.{class_name, slot_data}
 use Rattle.wb_model_json.proofs.ByName.{Ascend, IsBelowEach, by_name-In, by_name-ascending}
 use Rattle.wb_model_json.proofs.ReadBack.{read-compact_text}
 use Rattle.wb_model_json.proofs.SayableModels.{slot-shallow}
 use Rattle.wb_model_json.proofs.Shallow.{IsShallow, members-shallow}
 use Rattle.wb_model_json.proofs.WrittenForms.{members_of-written, in_turn-made}
-use Rattle.wb_model_json.proofs.WrittenObjects.{present}
+use Rattle.wb_base.proofs.ListLemmas.{present}
 use Rattle.wb_model_json.proofs.WrittenScalars.{scalar-read, slot_text, values-again}
 use Rattle.wb_model_json.proofs.WrittenSlots.{NamedSlot, IsWritten, named_text, name-read, data-read, found}
 
@@ -94,9 +95,9 @@ module _ (mm : Metamodel) (formed : WellFormed mm) (c : ℕ) (known : c < length
         own = mine;
         single = one_of (length s.values) (is_many mm s.feature) h.count;
         filled = some_of (length s.values) (is_many mm s.feature) h.count;
-        sayable = h.sayable;
+        sayable = h.in_range;
         again = λ v i.
-            sym (ap (λ r. r >>= value_for mm feature.0.kind) (scalar-read mm v (In-all is_sayable s.values v h.sayable i)))
+            sym (ap (λ r. r >>= value_for mm feature.0.kind) (scalar-read mm v (In-all is_in_range s.values v h.in_range i)))
             ∙ all-In (IsSaid mm feature.0.kind) s.values v (h.said feature.0 feature.1) i;
       }
 

@@ -12,7 +12,7 @@ use Rattle.serde_json.specs.Data.{Data, number, string, object, no_members, memb
 use Rattle.serde_json.specs.Written.{compact_text}
 use Rattle.serde_json.specs.View.{items_of}
 use Rattle.wb_json.specs.ToJson.{list_json, members_json}
-use Rattle.wb_json.specs.Form.{is_name, is_name_byte}
+use Rattle.wb_base.specs.Names.{is_name, is_name_byte}
 use Rattle.wb_json.specs.Json.{json_of}
 use Rattle.wb_json.proofs.JsonTexts.{json_of_text}
 use Rattle.json.proofs.Printed.Utf8.{are_ascii, IsUtf8-are_ascii}
@@ -27,13 +27,15 @@ use Rattle.wb_validity.specs.Valid.{Valid}
 use Rattle.wb_store.proofs.Members.{In, In-all, map-In}
 use Rattle.wb_store.proofs.Members.In.{here, there}
 use Rattle.wb_model_json.specs.ByName.{by_name}
-use Rattle.wb_model_json.specs.Sayable.{is_sayable, IsSayable}
+use Rattle.wb_validity.specs.Ranges.{is_in_range}
 use Rattle.wb_model_json.specs.Written.{literal_text, scalar_data, single_data, slot_data, named_slots, slots_data, class_name, object_of_class, object_data, number_data, model_data, text_of}
+use Rattle.wb_validity.specs.Ranges.{AreInRange}
+use Rattle.wb_model_json.proofs.InRange.{next-small, object-small}
 use Rattle.wb_model_json.proofs.ReadBack.{read-compact_text}
 use Rattle.wb_model_json.proofs.Shallow.{IsShallow, list-shallow, members-shallow}
 use Rattle.wb_model_json.proofs.ByName.{json_members, put_all-by_name}
 use Rattle.wb_model_json.proofs.WrittenModels.{root-small}
-use Rattle.wb_model_json.proofs.WrittenObjects.{entry-kind, all-written, next-small, object-small, class-known, name-known}
+use Rattle.wb_model_json.proofs.WrittenObjects.{entry-kind, all-written, class-known, name-known}
 use Rattle.wb_model_json.proofs.WrittenSlots.{name-read}
 use Rattle.wb_model_json.proofs.WrittenTexts.{HasTexts, ItemsHaveTexts, MembersHaveTexts, IsUtf8-compact_text}
 
@@ -46,7 +48,7 @@ narrower n h = grind (arith, nat_tests)
 pub number-shallow : (n : ℕ) → ltb n (2 ^ 32) ≡ true → IsShallow 0 (number_data n)
 number-shallow n h = record { sayable = ltb-true _ _ (narrower n h); shallow = omega arith }
 
-pub scalar-shallow : (mm : Metamodel) (v : Scalar) → is_sayable v ≡ true → IsShallow 0 (scalar_data mm v)
+pub scalar-shallow : (mm : Metamodel) (v : Scalar) → is_in_range v ≡ true → IsShallow 0 (scalar_data mm v)
 scalar-shallow mm (scalars.Int (pos n)) h = record { sayable = ltb-true _ _ (narrow n h); shallow = omega arith }
 scalar-shallow mm (scalars.Int (negsuc n)) h = record { sayable = ltb-true _ _ h; shallow = omega arith }
 scalar-shallow mm (scalars.Bool b) h = record { sayable = tt; shallow = omega arith }
@@ -57,15 +59,15 @@ scalar-shallow mm (scalars.Object o) h = number-shallow o h
 deeper : (n k : ℕ) (d : Data) → n ≤ k → IsShallow n d → IsShallow k d
 deeper n k d h s = let below = s.shallow in record { sayable = s.sayable; shallow = omega arith }
 
-single-shallow : (mm : Metamodel) (values : List Scalar) → list_all is_sayable values ≡ true → IsShallow 1 (single_data mm values)
+single-shallow : (mm : Metamodel) (values : List Scalar) → list_all is_in_range values ≡ true → IsShallow 1 (single_data mm values)
 single-shallow mm [] h = record { sayable = tt; shallow = omega arith }
 single-shallow mm (v ∷ values) h = deeper 0 1 (scalar_data mm v) (omega arith) (scalar-shallow mm v (and_parts _ _ h).0)
 
-pub slot-shallow : (mm : Metamodel) (s : ℕ × List Scalar) → list_all is_sayable s.1 ≡ true → IsShallow 1 (slot_data mm s)
+pub slot-shallow : (mm : Metamodel) (s : ℕ × List Scalar) → list_all is_in_range s.1 ≡ true → IsShallow 1 (slot_data mm s)
 unfolding slot_data
 slot-shallow mm s h =
     elim (is_many mm s.0) as (λ b. IsShallow 1 (cond b (list_json (scalar_data mm) s.1) (single_data mm s.1))) [
-      | true ↦ list-shallow (scalar_data mm) 0 s.1 (λ v i. scalar-shallow mm v (In-all is_sayable s.1 v h i))
+      | true ↦ list-shallow (scalar_data mm) 0 s.1 (λ v i. scalar-shallow mm v (In-all is_in_range s.1 v h i))
       | false ↦ single-shallow mm s.1 h
     ]
 
@@ -125,7 +127,7 @@ module _ (mm : Metamodel) (formed : WellFormed mm) where
         ] refl
       ] refl
 
-  scalar-texts : (v : Scalar) → is_sayable v ≡ true → HasTexts (scalar_data mm v)
+  scalar-texts : (v : Scalar) → is_in_range v ≡ true → HasTexts (scalar_data mm v)
   scalar-texts (scalars.Int (pos n)) h = ltb-true _ _ (narrow n h)
   scalar-texts (scalars.Int (negsuc n)) h = ltb-true _ _ h
   scalar-texts (scalars.Bool b) h = tt
@@ -133,21 +135,21 @@ module _ (mm : Metamodel) (formed : WellFormed mm) where
   scalar-texts (scalars.Literal e l) h = literal-utf8 e l
   scalar-texts (scalars.Object o) h = ltb-true _ _ (narrower o h)
 
-  single-texts : (values : List Scalar) → list_all is_sayable values ≡ true → HasTexts (single_data mm values)
+  single-texts : (values : List Scalar) → list_all is_in_range values ≡ true → HasTexts (single_data mm values)
   single-texts [] h = tt
   single-texts (v ∷ values) h = scalar-texts v (and_parts _ _ h).0
 
-  slot-texts : (s : ℕ × List Scalar) → list_all is_sayable s.1 ≡ true → HasTexts (slot_data mm s)
+  slot-texts : (s : ℕ × List Scalar) → list_all is_in_range s.1 ≡ true → HasTexts (slot_data mm s)
   unfolding slot_data
   slot-texts s h =
       elim (is_many mm s.0) as (λ b. HasTexts (cond b (list_json (scalar_data mm) s.1) (single_data mm s.1))) [
-        | true ↦ list-texts (scalar_data mm) s.1 (λ v i. scalar-texts v (In-all is_sayable s.1 v h i))
+        | true ↦ list-texts (scalar_data mm) s.1 (λ v i. scalar-texts v (In-all is_in_range s.1 v h i))
         | false ↦ single-texts s.1 h
       ]
 
 -- ---- a model
 
-module _ (m : Contents) (formed : WellFormed m.metamodel) (v : Valid m) (s : IsSayable m) where
+module _ (m : Contents) (formed : WellFormed m.metamodel) (v : Valid m) (s : AreInRange m) where
   slots-shallow : (o c : ℕ) → IsShallow 2 (slots_data m o c)
   slots-shallow o c = members-shallow (slot_data m.metamodel) 1 (named_slots m o (features_of m.metamodel c)) (λ n i. slot-shallow m.metamodel n.1 (all-written m formed v s o c n i).sayable)
 
@@ -161,19 +163,19 @@ module _ (m : Contents) (formed : WellFormed m.metamodel) (v : Valid m) (s : IsS
 
   kept-shallow : (e : ℕ × ℕ) → In e (entries m.kinds) → IsShallow 3 (object_data m e.0)
   unfolding object_data
-  kept-shallow e i = subst (λ k. IsShallow 3 (object_of_class m e.0 k)) (sym (entry-kind m e.0 e.1 i)) (object-shallow (class_name m.metamodel e.1) e.0 (slots_data m e.0 e.1) (object-small m formed v s e i) (slots-shallow e.0 e.1))
+  kept-shallow e i = subst (λ k. IsShallow 3 (object_of_class m e.0 k)) (sym (entry-kind m e.0 e.1 i)) (object-shallow (class_name m.metamodel e.1) e.0 (slots_data m e.0 e.1) (object-small m v e i) (slots-shallow e.0 e.1))
 
   kept-texts : (e : ℕ × ℕ) → In e (entries m.kinds) → HasTexts (object_data m e.0)
   unfolding object_data
   kept-texts e i = subst (λ k. HasTexts (object_of_class m e.0 k)) (sym (entry-kind m e.0 e.1 i)) (
     IsUtf8-are_ascii (codes "class") refl,
     name-utf8 (class_name m.metamodel e.1) (name-known m formed v s e i),
-    (IsUtf8-are_ascii (codes "id") refl, ltb-true _ _ (narrower e.0 (object-small m formed v s e i)), (IsUtf8-are_ascii (codes "slots") refl, slots-texts e i, tt)),
+    (IsUtf8-are_ascii (codes "id") refl, ltb-true _ _ (narrower e.0 (object-small m v e i)), (IsUtf8-are_ascii (codes "slots") refl, slots-texts e i, tt)),
   )
 
   all-shallow : IsShallow 5 (model_data m)
   unfolding model_data
-  all-shallow = model-shallow m.next _ _ (next-small m formed v s)
+  all-shallow = model-shallow m.next _ _ (next-small m v)
       (list-shallow (object_data m) 3 (keys m.kinds) (keyed (λ o. IsShallow 3 (object_data m o)) kept-shallow))
       (list-shallow number_data 0 m.roots (λ o i. number-shallow o (root-small m formed v s o i)))
 
@@ -181,7 +183,7 @@ module _ (m : Contents) (formed : WellFormed m.metamodel) (v : Valid m) (s : IsS
   unfolding model_data
   all-texts = (
     IsUtf8-are_ascii (codes "next") refl,
-    ltb-true _ _ (narrower m.next (next-small m formed v s)),
+    ltb-true _ _ (narrower m.next (next-small m v)),
     (
       IsUtf8-are_ascii (codes "objects") refl,
       list-texts (object_data m) (keys m.kinds) (keyed (λ o. HasTexts (object_data m o)) kept-texts),

@@ -2,12 +2,12 @@
 use Rattle.std.proofs.Common.{◌≡◌, ℕ, ◌+◌, Bool, true, false, ◌||◌, List, [], ◌∷◌, ◌++◌, Some, None, refl, sym, ap, ◌∙◌, cond, eqb}
 use Rattle.std.proofs.lemmas.Bool.{and_parts, false_from_ne_true, both_ways}
 use Rattle.std.proofs.lemmas.List.Folds.{list_any-append}
-use Rattle.std.specs.Prelude.{is_some, not}
+use Rattle.std.specs.Prelude.{not}
 use Rattle.std.specs.List.{list_any}
 use Rattle.wb_store.specs.Places.{once}
 use Rattle.wb_store.proofs.Members.{In, any_In}
 use Rattle.wb_store.proofs.Members.In.{here, there}
-use Rattle.wb_model_json.specs.ModelFile.{repeat_from, has_repeat}
+use Rattle.wb_model_json.specs.ModelFile.{repeat_from}
 
 of_not : (b : Bool) → not b ≡ true → b ≡ false
 of_not true h = sym h
@@ -31,6 +31,3 @@ fresh-none i earlier (n ∷ ns) new h =
 
 pub once-none : (ns : List ℕ) → once ns ≡ true → repeat_from 0 [] ns ≡ None
 once-none ns h = fresh-none 0 [] ns (λ n i. refl) h
-
-pub once-has_repeat : (ns : List ℕ) → once ns ≡ true → has_repeat ns ≡ false
-once-has_repeat ns h = ap is_some (once-none ns h)

@@ -4,7 +4,8 @@ use Rattle.std.specs.List.{enumerate_from}
 use Rattle.serde_json.specs.Data.{Data}
 use Rattle.serde_json.specs.View.{items_of}
 use Rattle.wb_json.specs.Place.{Place, at_index, at_member}
-use Rattle.wb_json.specs.Form.{◌>>=◌, in_turn, item_list, item_of, list_of, names_pass, member_list, member_of, members_of, object_with, is_name}
+use Rattle.wb_base.specs.Results.{◌>>=◌}
+use Rattle.wb_json.specs.Form.{in_turn, item_list, item_of, list_of, names_pass, member_list, member_of, members_of, object_with, is_name}
 use Rattle.wb_ecore.specs.Resolving.{in_place, walked}
 use Rattle.wb_json.specs.ToJson.{list_json, members_json}
 use Rattle.wb_model_json.specs.ByName.{by_name}

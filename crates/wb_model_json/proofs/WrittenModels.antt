@@ -4,6 +4,7 @@ use Rattle.std.proofs.lemmas.Bool.{and_from, eqb-true, le-leb}
 use Rattle.std.proofs.lemmas.Bool.Decides.{nat_tests}
 use Rattle.std.proofs.lemmas.Cmp.{nat_cmp_total}
 use Rattle.std.proofs.lemmas.List.{length-map}
+use Rattle.wb_base.proofs.ListLemmas.{map-map}
 use Rattle.std.specs.Bool.{beq}
 use Rattle.std.specs.Prelude.{⊤, codes, filter}
 use Rattle.std.specs.List.{list_all, flat_map}
@@ -26,6 +27,7 @@ use Rattle.wb_store.specs.Parts.{slot_of, record_of, made_of, is_listed, is_list
 use Rattle.wb_store.specs.Records.{kind_entry, filled, slot_entry, slot_entries}
 use Rattle.wb_store.specs.Features.{is_many}
 use Rattle.wb_validity.specs.Valid.{Valid, IsValid, is_of_class, has_feature}
+use Rattle.wb_store.proofs.Filtered.{In-filter}
 use Rattle.wb_store.proofs.Found.{is_itself}
 use Rattle.wb_validity.proofs.LinkLemmas.{any_found}
 use Rattle.wb_model.proofs.Live.{kind-at, kind-some}
@@ -38,15 +40,17 @@ use Rattle.wb_model_json.specs.declared.model_text.ModelText.{ModelText}
 use Rattle.wb_model_json.specs.declared.refusal.ModelCode.TheVariants.{BadJson, BadShape, TooMany, DuplicateObject, UnknownName}
 use Rattle.wb_model_json.specs.ModelFile.{few, repeat_from, id_of, repeated_at, unrepeated, part_for, parts_for, read_text, checked_parts, judged, made, model}
 use Rattle.wb_model_json.specs.ModelText.{object_of, model_of}
-use Rattle.wb_model_json.specs.Refusals.{◌>>=◌, coded}
-use Rattle.wb_model_json.specs.Sayable.{IsSayable}
+use Rattle.wb_base.specs.Results.{◌>>=◌}
+use Rattle.wb_json.specs.Refusals.{coded}
 use Rattle.wb_model_json.specs.Written.{is_filled, named_slot, named_slots, object_data, number_data, model_data}
 use Rattle.wb_model_json.proofs.ByName.{In-by_name}
 use Rattle.wb_model_json.proofs.Entries.{entry-get, get-entry, from_entries-entries, entries-functional, entries-once}
 use Rattle.wb_validity.proofs.Unbroken.{unbroken}
+use Rattle.wb_validity.specs.Ranges.{AreInRange}
+use Rattle.wb_model_json.proofs.InRange.{next-small, object-small}
 use Rattle.wb_model_json.proofs.Unrepeated.{once-none}
 use Rattle.wb_model_json.proofs.WrittenForms.{list_of-written, walked-made}
-use Rattle.wb_model_json.proofs.WrittenObjects.{named_slots_of, object_text, object_part, slot-entry, named-origin, of_object, slot-written, all-written, next-small, object-small, class-known, object-read, object-again}
+use Rattle.wb_model_json.proofs.WrittenObjects.{named_slots_of, object_text, object_part, slot-entry, named-origin, of_object, slot-written, all-written, class-known, object-read, object-again}
 use Rattle.wb_model_json.proofs.WrittenScalars.{map-same}
 use Rattle.wb_model_json.proofs.WrittenSlots.{NamedSlot, named_part, same-feature}
 
@@ -59,23 +63,12 @@ model_of-read next objects roots texts numbers small roots_read objects_read = r
 number-read : (n : ℕ) → ltb n (2 ^ 32) ≡ true → u32_of (number_data n) ≡ Ok n
 number-read n h = ap (λ b. or_wrong (cond b (Some n) None)) h
 
-map-map : {A B C : Type 0} (f : A → B) (g : B → C) (xs : List A) → map g (map f xs) ≡ map (λ x. g (f x)) xs
-map-map f g [] = refl
-map-map f g (x ∷ xs) = ap (λ ys. g (f x) ∷ ys) (map-map f g xs)
-
 some_values : (w : Filled) → ltb 0 (length (members w)) ≡ true
 some_values w = grind (arith, nat_tests)
 
 same_flag : (b : Bool) → beq b b ≡ true
 same_flag true = refl
 same_flag false = refl
-
-In-filter : {A : Type 0} (p : A → Bool) (xs : List A) (x : A) → In x xs → p x ≡ true → In x (filter p xs)
-In-filter p [] x i h = elim i [ ]
-In-filter p (z ∷ xs) x here h = subst (λ b. In x (cond b (x ∷ filter p xs) (filter p xs))) (sym h) here
-In-filter p (y ∷ xs) x (there i) h =
-    let rest = In-filter p xs x i h in
-    elim (p y) as (λ b. In x (cond b (y ∷ filter p xs) (filter p xs))) [ true ↦ there rest | false ↦ rest ]
 
 only_filled : (k : ℕ × ℕ) (w : Filled) (values : List Scalar) (e : (ℕ × ℕ) × Filled) → values ≡ members w → In e (filled k values) → e ≡ (k, w)
 only_filled k w values e is i = first e (subst (λ values. In e (filled k values)) is i)
@@ -91,24 +84,24 @@ model_text m = record { next = m.next; roots = m.roots; objects = map (object_te
 abbrev pub model_parts : Contents → List Part
 model_parts m = map (object_part m) (entries m.kinds)
 
-module _ (m : Contents) (formed : WellFormed m.metamodel) (v : Valid m) (s : IsSayable m) where
+module _ (m : Contents) (formed : WellFormed m.metamodel) (v : Valid m) (s : AreInRange m) where
   objects-read : list_of object_of (list_json (object_data m) (keys m.kinds)) ≡ Ok (map (object_text m) (entries m.kinds))
   unfolding list_json
   objects-read =
-      ap (λ ds. list_of object_of (array (items_of ds))) (map-map (λ (e : ℕ × ℕ). e.0) (object_data m) (entries m.kinds))
+      ap (λ ds. list_of object_of (array (items_of ds))) (map-map (object_data m) (λ (e : ℕ × ℕ). e.0) (entries m.kinds))
       ∙ list_of-written object_of (λ (e : ℕ × ℕ). object_data m e.0) (object_text m) (entries m.kinds) (λ e i. object-read m formed v s e i)
 
   pub root-small : (o : ℕ) → In o m.roots → ltb o (2 ^ 32) ≡ true
   root-small o i =
       let c = kind-some m o (v.roots_are_uncontained.live o (any_In (λ root. eqb root o) m.roots o i (is_itself o))) in
-      object-small m formed v s (o, c.0) (get-entry nat_cmp_total nat_cmp-IsAntisymmetric m.kinds o c.0 c.1)
+      object-small m v (o, c.0) (get-entry nat_cmp_total nat_cmp-IsAntisymmetric m.kinds o c.0 c.1)
 
   roots-read : list_of u32_of (list_json number_data m.roots) ≡ Ok m.roots
   roots-read = list_of-written u32_of number_data (λ n. n) m.roots (λ n i. number-read n (root-small n i)) ∙ ap Ok (map-same m.roots)
 
   model-read : model_of (model_data m) ≡ Ok (model_text m)
   unfolding model_data
-  model-read = model_of-read m.next _ _ (map (object_text m) (entries m.kinds)) m.roots (next-small m formed v s) roots-read objects-read
+  model-read = model_of-read m.next _ _ (map (object_text m) (entries m.kinds)) m.roots (next-small m v) roots-read objects-read
 
   -- ---- the checks
 
@@ -119,7 +112,7 @@ module _ (m : Contents) (formed : WellFormed m.metamodel) (v : Valid m) (s : IsS
 
   unrepeated-read : unrepeated (map (object_text m) (entries m.kinds)) ≡ Ok tt
   unrepeated-read =
-      ap repeated_at (ap (repeat_from 0 []) (map-map (object_text m) id_of (entries m.kinds)) ∙ once-none (map (λ (e : ℕ × ℕ). e.0) (entries m.kinds)) (entries-once m.kinds))
+      ap repeated_at (ap (repeat_from 0 []) (map-map id_of (object_text m) (entries m.kinds)) ∙ once-none (map (λ (e : ℕ × ℕ). e.0) (entries m.kinds)) (entries-once m.kinds))
 
   parts-read : parts_for m.metamodel (map (object_text m) (entries m.kinds)) ≡ Ok (model_parts m)
   parts-read = ap (at_member (codes "objects")) (walked-made (part_for m.metamodel) (object_text m) (object_part m) (entries m.kinds) (λ e i. object-again m formed v s e i))

@@ -8,6 +8,7 @@ use Rattle.std.specs.List.{list_all}
 use Rattle.std.specs.Option.{option_map_or}
 use Rattle.std.specs.FinMap.{entries, get, nat_cmp-IsAntisymmetric}
 use Rattle.serde_json.specs.Data.{Data, number, string, object, no_members, member, unsigned}
+use Rattle.wb_base.proofs.ListLemmas.{present}
 use Rattle.wb_json.specs.Form.{is_name, members_of, object_with}
 use Rattle.wb_metamodel.specs.Metamodel.{class_at, feature_at, features_of}
 use Rattle.wb_metamodel.specs.WellFormed.{WellFormed}
@@ -27,18 +28,15 @@ use Rattle.wb_model_json.specs.declared.model_text.ObjectText.{ObjectText}
 use Rattle.wb_model_json.specs.ByName.{by_name}
 use Rattle.wb_model_json.specs.ModelFile.{part_for}
 use Rattle.wb_model_json.specs.ModelText.{object_of, slot_of}
-use Rattle.wb_model_json.specs.Sayable.{is_sayable, IsSayable}
+use Rattle.wb_validity.specs.Ranges.{is_in_range}
 use Rattle.wb_model_json.specs.Written.{class_name, is_filled, named_slot, named_slots, slot_data, slots_data, object_of_class, object_data}
 use Rattle.wb_model_json.proofs.ByName.{by_name-In, by_name-ascend}
 use Rattle.wb_model_json.proofs.Entries.{entry-get, get-entry}
+use Rattle.wb_validity.specs.Ranges.{AreInRange}
+use Rattle.wb_model_json.proofs.InRange.{object-small}
 use Rattle.wb_model_json.proofs.WrittenForms.{members_of-written}
 use Rattle.wb_model_json.proofs.WrittenScalars.{slot_text, kind-again}
 use Rattle.wb_model_json.proofs.WrittenSlots.{NamedSlot, IsWritten, named_text, named_part, name-read, data-read, part-again}
-
-pub present : {A : Type 0} (xs : List A) (i : ℕ) → i < length xs → (x : A) × (slice_get xs i ≡ Some x)
-present [] i h = absurd (omega arith)
-present (x ∷ xs) zero h = (x, refl)
-present (x ∷ xs) (suc i) h = present xs i (omega arith)
 
 -- the form of an object
 pub object_of-read : (name : List ℕ) (o : ℕ) (slots : Data) (texts : List (List ℕ × SlotText)) → is_name name ≡ true → ltb o (2 ^ 32) ≡ true → members_of slot_of slots ≡ Ok texts
@@ -92,7 +90,7 @@ module _ (m : Contents) where
   pub of_object : (o c : ℕ) (n : NamedSlot) → In n (named_slots_of m o c) → IsOfObject o c n
   of_object o c n i = named-origin o c n (by_name-In (named_slots m o (features_of m.metamodel c)) n i)
 
-module _ (m : Contents) (formed : WellFormed m.metamodel) (v : Valid m) (s : IsSayable m) where
+module _ (m : Contents) (formed : WellFormed m.metamodel) (v : Valid m) (s : AreInRange m) where
   feature-of : (c f : ℕ) → In f (features_of m.metamodel c) → (feature : Feature) × (feature_at m.metamodel f ≡ Some feature)
   feature-of c f i =
       let at = Contains-In (features_of m.metamodel c) f i in
@@ -104,7 +102,7 @@ module _ (m : Contents) (formed : WellFormed m.metamodel) (v : Valid m) (s : IsS
   pub slot-written : (o c f : ℕ) → In f (features_of m.metamodel c) → is_filled m o f ≡ true → IsWritten m.metamodel c (named_slot m o f)
   slot-written o c f own filled =
       let feature = feature-of c f own in
-      let sayable = at-slot m (λ o f values. list_all is_sayable values) s.scalars o f filled in
+      let sayable = at-slot m (λ o f values. list_all is_in_range values) s.scalars o f filled in
       let kinds = at-slot m (λ o f values. list_all (is_of_feature m f) values) v.values_are_of_kinds o f filled in
       record {
         feature = feature.0;
@@ -114,23 +112,13 @@ module _ (m : Contents) (formed : WellFormed m.metamodel) (v : Valid m) (s : IsS
         single = only_one (length (slot m o f)) (is_many m.metamodel f) filled (at-slot m (λ o f values. leb (length values) (cond (is_many m.metamodel f) 20000 1)) v.slots_have_room o f filled);
         filled = filled;
         sayable = sayable;
-        again = λ value i. kind-again m formed feature.0.kind value (of-kind f feature.0 value feature.1 (In-all (is_of_feature m f) (slot m o f) value kinds i)) (In-all is_sayable (slot m o f) value sayable i);
+        again = λ value i. kind-again m formed feature.0.kind value (of-kind f feature.0 value feature.1 (In-all (is_of_feature m f) (slot m o f) value kinds i)) (In-all is_in_range (slot m o f) value sayable i);
       }
 
   pub all-written : (o c : ℕ) (n : NamedSlot) → In n (named_slots_of m o c) → IsWritten m.metamodel c n
   all-written o c n i =
       let own = of_object m o c n i in
       subst (IsWritten m.metamodel c) (sym own.is) (slot-written o c own.feature own.of_class own.filled)
-
-  smaller : (o next : ℕ) → ltb o next ≡ true → ltb next (2 ^ 32) ≡ true → ltb o (2 ^ 32) ≡ true
-  smaller o next h l = grind (arith, nat_tests)
-
-  pub next-small : ltb m.next (2 ^ 32) ≡ true
-  next-small = (and_parts _ _ (and_parts _ _ v.numbers_are_spent).0).1
-
-  pub object-small : (e : ℕ × ℕ) → In e (entries m.kinds) → ltb e.0 (2 ^ 32) ≡ true
-  object-small e i =
-      smaller e.0 m.next (and_parts _ _ (In-all (λ (e : ℕ × ℕ). ltb 0 e.0 && ltb e.0 m.next) (entries m.kinds) e (and_parts _ _ v.numbers_are_spent).1 i)).1 next-small
 
   pub class-known : (e : ℕ × ℕ) → In e (entries m.kinds) → e.1 < length m.metamodel.classes
   class-known e i = ltb-true _ _ (In-all (λ (e : ℕ × ℕ). ltb e.1 (length m.metamodel.classes)) (entries m.kinds) e s.classes i)
@@ -152,9 +140,9 @@ module _ (m : Contents) (formed : WellFormed m.metamodel) (v : Valid m) (s : IsS
 
     pub object-read : object_of (object_data m e.0) ≡ Ok (object_text m e)
     unfolding object_data
-    object-read = ap (λ k. object_of (object_of_class m e.0 k)) (entry-kind m e.0 e.1 i) ∙ object_of-read (class_name m.metamodel e.1) e.0 (slots_data m e.0 e.1) _ name-known (object-small e i) slots-read
+    object-read = ap (λ k. object_of (object_of_class m e.0 k)) (entry-kind m e.0 e.1 i) ∙ object_of-read (class_name m.metamodel e.1) e.0 (slots_data m e.0 e.1) _ name-known (object-small m v e i) slots-read
 
     pub object-again : part_for m.metamodel (object_text m e) ≡ Ok (object_part m e)
     object-again =
         subst (λ name. part_for m.metamodel (record { id = e.0; class = name; slots = map (named_text m.metamodel) (named_slots_of m e.0 e.1) }) ≡ Ok (object_part m e)) (sym named-so)
-        (part-again m.metamodel formed e.1 (class-known e i) (named_slots_of m e.0 e.1) (by_name-ascend (named_slots m e.0 (features_of m.metamodel e.1))) (all-written e.0 e.1) e.0 class-present.0 class-present.1)
+        (part-again m.metamodel formed e.1 (class-known e i) (named_slots_of m e.0 e.1) (all-written e.0 e.1) e.0 class-present.0 class-present.1)

@@ -12,7 +12,7 @@ use Rattle.std.specs.Cmp.Lexicographic.{slice_cmp}
 use Rattle.std.specs.FinMap.{entries, nat_cmp-IsAntisymmetric}
 use Rattle.serde_json.specs.Data.{string, object, no_members, member}
 use Rattle.serde_json.specs.Written.{compact_text}
-use Rattle.wb_json.specs.Form.{◌>>=◌}
+use Rattle.wb_base.specs.Results.{◌>>=◌}
 use Rattle.wb_json.specs.ToJson.{members_json}
 use Rattle.wb_metamodel.specs.Metamodel.{Metamodel, features_of}
 use Rattle.wb_metamodel.specs.WellFormed.{WellFormed}
@@ -27,11 +27,12 @@ use Rattle.wb_store.proofs.Members.{In, In-all, any_In}
 use Rattle.wb_store.proofs.Members.In.{here, there}
 use Rattle.wb_model_json.specs.ModelFile.{value_for}
 use Rattle.wb_model_json.specs.Rows.{slot_name, row_slot, data_of_row, text_of_row, names_ascend, IsSaid, IsRowSlot, IsRow, IsTextOf, slot_row, row_of}
-use Rattle.wb_model_json.specs.Sayable.{is_sayable, IsSayable}
+use Rattle.wb_validity.specs.Ranges.{is_in_range}
 use Rattle.wb_model_json.specs.Written.{class_name, named_slots, slot_data, row_of_class, row_data, row_text}
 use Rattle.wb_model_json.proofs.ByName.{Ascend, IsBelowEach, by_name-ascend, by_name-ascending, put_all-by_name, json_members}
 use Rattle.wb_model_json.proofs.Entries.{get-entry}
 use Rattle.wb_model_json.proofs.RowsAgain.{count_of}
+use Rattle.wb_validity.specs.Ranges.{AreInRange}
 use Rattle.wb_model_json.proofs.SayableModels.{name-utf8, slots-texts}
 use Rattle.wb_model_json.proofs.WrittenObjects.{named_slots_of, all-written, class-known, name-known}
 use Rattle.wb_model_json.proofs.WrittenScalars.{scalar-read, IsAgain}
@@ -39,8 +40,8 @@ use Rattle.wb_model_json.proofs.WrittenSlots.{NamedSlot, IsWritten}
 use Rattle.wb_model_json.proofs.WrittenTexts.{HasTexts, IsUtf8-compact_text}
 use Rattle.json.proofs.Printed.Utf8.{IsUtf8-are_ascii}
 
-all-said : (mm : Metamodel) (k : Kind) (values : List Scalar) → ((v : Scalar) → In v values → IsAgain mm k v) → list_all is_sayable values ≡ true → AllByRecursion (IsSaid mm k) values
-all-said mm k values h s = each values (λ v i. ap (λ r. r >>= value_for mm k) (scalar-read mm v (In-all is_sayable values v s i)) ∙ h v i)
+all-said : (mm : Metamodel) (k : Kind) (values : List Scalar) → ((v : Scalar) → In v values → IsAgain mm k v) → list_all is_in_range values ≡ true → AllByRecursion (IsSaid mm k) values
+all-said mm k values h s = each values (λ v i. ap (λ r. r >>= value_for mm k) (scalar-read mm v (In-all is_in_range values v s i)) ∙ h v i)
   where
     each : (values : List Scalar) → ((v : Scalar) → In v values → IsSaid mm k v) → AllByRecursion (IsSaid mm k) values
     each [] h = tt
@@ -54,7 +55,7 @@ module _ (mm : Metamodel) (c : ℕ) where
   row-slot n w = record {
     of_class = any_In (λ feature. eqb feature n.1.0) (features_of mm c) n.1.0 w.own (is_itself n.1.0);
     count = count_of (length n.1.1) (is_many mm n.1.0) w.filled w.single;
-    sayable = w.sayable;
+    in_range = w.sayable;
     said = λ feature is. subst (λ (feature : Feature). AllByRecursion (IsSaid mm feature.kind) n.1.1) (same_Some w.feature feature (sym w.at ∙ is)) (all-said mm w.feature.kind n.1.1 w.again w.sayable);
   }
 
@@ -76,7 +77,7 @@ module _ (mm : Metamodel) (c : ℕ) where
       and_from _ _ (subst (λ k. list_all (λ other. is_lt (slice_cmp nat_cmp k other)) (map (slot_name mm) (map slot_row ns)) ≡ true) (sym (slot-named n (h n here))) (names-below n.0 ns (λ m i. h m (there i)) a.0))
       (names-rise ns (λ m i. h m (there i)) a.1)
 
-module _ (m : Contents) (formed : WellFormed m.metamodel) (v : Valid m) (s : IsSayable m) (o c : ℕ) (live : kind m o ≡ Some c) where
+module _ (m : Contents) (formed : WellFormed m.metamodel) (v : Valid m) (s : AreInRange m) (o c : ℕ) (live : kind m o ≡ Some c) where
   entry : In (o, c) (entries m.kinds)
   entry = get-entry nat_cmp_total nat_cmp-IsAntisymmetric m.kinds o c live
 

@@ -6,7 +6,8 @@ use Rattle.std.specs.Prelude.{slice_get, unwrap_or, is_some}
 use Rattle.std.specs.List.{list_all}
 use Rattle.std.specs.Option.{option_map, option_map_or}
 use Rattle.serde_json.specs.Find.{as_array}
-use Rattle.wb_json.specs.Form.{◌>>=◌, in_turn, or_wrong, list_of}
+use Rattle.wb_base.specs.Results.{◌>>=◌}
+use Rattle.wb_json.specs.Form.{in_turn, or_wrong, list_of}
 use Rattle.wb_json.specs.ToJson.{list_json}
 use Rattle.wb_metamodel.specs.Metamodel.{Metamodel, enum_at, literals_of, literal_named}
 use Rattle.wb_ecore.specs.Resolving.{walked}
@@ -25,7 +26,7 @@ use Rattle.wb_model_json.specs.declared.model_text.ScalarText.TheVariants.{Numbe
 use Rattle.wb_model_json.specs.declared.model_text.SlotText.{SlotText}
 use Rattle.wb_model_json.specs.ModelFile.{literal_for, value_for, values_for}
 use Rattle.wb_model_json.specs.ModelText.{scalar_of, slot_of, alone}
-use Rattle.wb_model_json.specs.Sayable.{is_sayable}
+use Rattle.wb_validity.specs.Ranges.{is_in_range}
 use Rattle.wb_model_json.specs.Written.{literal_text, scalar_data, single_data, slot_data}
 use Rattle.wb_model_json.proofs.WrittenForms.{list_of-written, in_turn-made, walked-made}
 
@@ -42,7 +43,7 @@ scalar_text mm (scalars.Object o) = Number (pos o)
 wider : (o : ℕ) → ltb o (2 ^ 32) ≡ true → ltb o (2 ^ 63) ≡ true
 wider o h = grind (arith, nat_tests)
 
-pub scalar-read : (mm : Metamodel) (v : Scalar) → is_sayable v ≡ true → scalar_of (scalar_data mm v) ≡ Ok (scalar_text mm v)
+pub scalar-read : (mm : Metamodel) (v : Scalar) → is_in_range v ≡ true → scalar_of (scalar_data mm v) ≡ Ok (scalar_text mm v)
 scalar-read mm (scalars.Int (pos n)) h = ap (λ b. or_wrong (option_map Number (cond b (Some (pos n)) None))) h
 scalar-read mm (scalars.Int (negsuc n)) h = refl
 scalar-read mm (scalars.Bool b) h = refl
@@ -64,24 +65,24 @@ no_array mm (scalars.Text text) = refl
 no_array mm (scalars.Literal e l) = refl
 no_array mm (scalars.Object o) = refl
 
-many-read : (mm : Metamodel) (values : List Scalar) → list_all is_sayable values ≡ true → slot_of (list_json (scalar_data mm) values) ≡ Ok (record { listed = true; values = map (scalar_text mm) values })
+many-read : (mm : Metamodel) (values : List Scalar) → list_all is_in_range values ≡ true → slot_of (list_json (scalar_data mm) values) ≡ Ok (record { listed = true; values = map (scalar_text mm) values })
 unfolding slot_of list_json
 many-read mm values h =
     ap (λ r. r >>= (λ (values : List ScalarText). Ok (record { listed = true; values = values })))
-    (list_of-written scalar_of (scalar_data mm) (scalar_text mm) values (λ v i. scalar-read mm v (In-all is_sayable values v h i)))
+    (list_of-written scalar_of (scalar_data mm) (scalar_text mm) values (λ v i. scalar-read mm v (In-all is_in_range values v h i)))
 
-one-read : (mm : Metamodel) (v : Scalar) → is_sayable v ≡ true → slot_of (scalar_data mm v) ≡ Ok (alone (scalar_text mm v))
+one-read : (mm : Metamodel) (v : Scalar) → is_in_range v ≡ true → slot_of (scalar_data mm v) ≡ Ok (alone (scalar_text mm v))
 unfolding slot_of
 one-read mm v h =
     ap (λ b. cond b (list_of scalar_of (scalar_data mm v) >>= (λ (values : List ScalarText). Ok (record { listed = true; values = values }))) (scalar_of (scalar_data mm v) >>= (λ (value : ScalarText). Ok (alone value)))) (no_array mm v)
     ∙ ap (λ r. r >>= (λ (value : ScalarText). Ok (alone value))) (scalar-read mm v h)
 
-single-read : (mm : Metamodel) (values : List Scalar) → length values ≡ 1 → list_all is_sayable values ≡ true → slot_of (single_data mm values) ≡ Ok (record { listed = false; values = map (scalar_text mm) values })
+single-read : (mm : Metamodel) (values : List Scalar) → length values ≡ 1 → list_all is_in_range values ≡ true → slot_of (single_data mm values) ≡ Ok (record { listed = false; values = map (scalar_text mm) values })
 single-read mm [] one h = absurd (omega arith)
 single-read mm (v ∷ []) one h = one-read mm v (and_parts _ _ h).0
 single-read mm (v ∷ w ∷ values) one h = absurd (omega arith)
 
-pub slot-read : (mm : Metamodel) (s : ℕ × List Scalar) → IsSingle mm s → list_all is_sayable s.1 ≡ true → slot_of (slot_data mm s) ≡ Ok (slot_text mm s)
+pub slot-read : (mm : Metamodel) (s : ℕ × List Scalar) → IsSingle mm s → list_all is_in_range s.1 ≡ true → slot_of (slot_data mm s) ≡ Ok (slot_text mm s)
 unfolding slot_data
 slot-read mm s single h =
     elim (is_many mm s.0) as (λ b. (b ≡ false → length s.1 ≡ 1) → slot_of (cond b (list_json (scalar_data mm) s.1) (single_data mm s.1)) ≡ Ok (record { listed = b; values = map (scalar_text mm) s.1 })) [
@@ -108,7 +109,7 @@ literal-again mm formed e l h =
       | Some one ↦ λ is h. ap (λ o. or_wrong (option_map (scalars.Literal e) o)) (formed.literals_named e l one _ is (some_at one.literals l h))
     ] refl h
 
-pub kind-again : (m : Contents) → WellFormed m.metamodel → (kind : Kind) (v : Scalar) → is_of_kind m kind v ≡ true → is_sayable v ≡ true → IsAgain m.metamodel kind v
+pub kind-again : (m : Contents) → WellFormed m.metamodel → (kind : Kind) (v : Scalar) → is_of_kind m kind v ≡ true → is_in_range v ≡ true → IsAgain m.metamodel kind v
 kind-again m formed kinds.Int (scalars.Int z) h s = refl
 kind-again m formed kinds.Int (scalars.Bool b) h s = absurd (false≢true h)
 kind-again m formed kinds.Int (scalars.Text t) h s = absurd (false≢true h)

@@ -24,13 +24,12 @@ use Rattle.wb_store.proofs.Members.{In, Contains-In, map-In}
 use Rattle.wb_store.proofs.Members.In.{here, there}
 use Rattle.wb_model_json.specs.declared.model_text.SlotText.{SlotText}
 use Rattle.wb_model_json.specs.declared.model_text.ObjectText.{ObjectText}
-use Rattle.wb_model_json.specs.ModelFile.{values_for, slot_with, slot_named, slot_for, slots_for, feature_of, part_with, part_for}
+use Rattle.wb_model_json.specs.ModelFile.{values_for, slot_with, slot_named, slot_for, slots_for, part_with, part_for}
 use Rattle.wb_model_json.specs.ModelText.{slot_of}
-use Rattle.wb_model_json.specs.Refusals.{◌>>=◌}
-use Rattle.wb_model_json.specs.Sayable.{is_sayable}
+use Rattle.wb_base.specs.Results.{◌>>=◌}
+use Rattle.wb_validity.specs.Ranges.{is_in_range}
 use Rattle.wb_model_json.specs.Written.{slot_data}
 use Rattle.wb_model_json.proofs.ByName.{Ascend, IsBelowEach}
-use Rattle.wb_model_json.proofs.Unrepeated.{once-has_repeat}
 use Rattle.wb_model_json.proofs.WrittenForms.{in_turn-made}
 use Rattle.wb_model_json.proofs.WrittenScalars.{slot_text, slot-read, IsSingle, IsAgain, values-again}
 
@@ -45,7 +44,7 @@ pub record IsWritten (mm : Metamodel) (class : ℕ) (n : NamedSlot) : Type 0 whe
   pub own : In n.1.0 (features_of mm class)
   pub single : IsSingle mm n.1
   pub filled : nat_lt 0 (length n.1.1) ≡ true
-  pub sayable : list_all is_sayable n.1.1 ≡ true
+  pub sayable : list_all is_in_range n.1.1 ≡ true
   pub again : (v : Scalar) → In v n.1.1 → IsAgain mm feature.kind v
 
 abbrev pub slot_part : Metamodel → ℕ × List Scalar → SlotPart
@@ -89,36 +88,17 @@ module _ (mm : Metamodel) (formed : WellFormed mm) (c : ℕ) (known : c < length
 
   -- ---- all of them
 
-  one_feature : (n m : NamedSlot) → IsWritten mm c n → IsWritten mm c m → m.1.0 ≡ n.1.0 → n.0 ≡ m.0
-  one_feature n m w v same = w.named ∙ ap (λ (f : Feature). f.name) (same_Some w.feature v.feature (sym w.at ∙ ap (feature_at mm) (sym same) ∙ v.at)) ∙ sym v.named
-
   pub same-feature : (n m : NamedSlot) → IsWritten mm c n → IsWritten mm c m → n.0 ≡ m.0 → n.1.0 ≡ m.1.0
   same-feature n m w v same = same_Some n.1.0 m.1.0 (sym (found n w) ∙ ap (feature_named mm c) same ∙ found m v)
 
-  module _ (ns : List NamedSlot) where
-    pub features-once : Ascend ns → ((n : NamedSlot) → In n ns → IsWritten mm c n) → once (map feature_of (map (named_part mm) ns)) ≡ true
-    features-once asc all = each ns asc all
-      where
-        each : (ns : List NamedSlot) → Ascend ns → ((n : NamedSlot) → In n ns → IsWritten mm c n) → once (map feature_of (map (named_part mm) ns)) ≡ true
-        each [] asc all = refl
-        each (n ∷ ns) asc all =
-            and_from _ _ (not_from_false _ (false_from_ne_true _ (λ h.
-            let f = any_found (λ other. eqb other n.1.0) (map feature_of (map (named_part mm) ns)) h in
-            let p = map-In feature_of (map (named_part mm) ns) f.0 f.1 in
-            let q = map-In (named_part mm) ns p.0 p.1 in
-            let same : q.0.1.0 ≡ n.1.0 = ap feature_of (sym q.2) ∙ sym p.2 ∙ eqb-true _ _ f.2 in
-            below_another n.0 q.0.0 (below_In n.0 ns q.0 asc.0 q.1) (one_feature n q.0 (all n here) (all q.0 (there q.1)) same))))
-            (each ns asc.1 (λ m i. all m (there i)))
+  module _ (ns : List NamedSlot) (all : (n : NamedSlot) → In n ns → IsWritten mm c n) where
+    pub slots-again : slots_for mm c (map (named_text mm) ns) ≡ Ok (map (named_part mm) ns)
+    slots-again = ap (at_member (codes "slots")) (in_turn-made (slot_for mm c) (named_text mm) (named_part mm) ns (λ n i. slot-again n (all n i)))
 
-    module _ (asc : Ascend ns) (all : (n : NamedSlot) → In n ns → IsWritten mm c n) where
-      pub slots-again : slots_for mm c (map (named_text mm) ns) ≡ Ok (map (named_part mm) ns)
-      slots-again = ap (at_member (codes "slots")) (in_turn-made (slot_for mm c) (named_text mm) (named_part mm) ns (λ n i. slot-again n (all n i)))
-
-      pub part-again : (o : ℕ) (class : Class) → class_at mm c ≡ Some class
-          → part_for mm (record { id = o; class = class.name; slots = map (named_text mm) ns }) ≡ Ok (record { id = o; class = c; slots = map (named_part mm) ns })
-      unfolding part_for
-      part-again o class is =
-          let text : ObjectText = record { id = o; class = class.name; slots = map (named_text mm) ns } in
-          ap (λ o. at_member (codes "class") (or_wrong o) >>= (λ (class : ℕ). slots_for mm class text.slots >>= part_with text class)) (formed.classes_named c class is)
-          ∙ ap (λ r. r >>= part_with text c) slots-again
-          ∙ ap (λ b. cond b (Err []) (Ok (record { id = o; class = c; slots = map (named_part mm) ns }))) (once-has_repeat (map feature_of (map (named_part mm) ns)) (features-once asc all))
+    pub part-again : (o : ℕ) (class : Class) → class_at mm c ≡ Some class
+        → part_for mm (record { id = o; class = class.name; slots = map (named_text mm) ns }) ≡ Ok (record { id = o; class = c; slots = map (named_part mm) ns })
+    unfolding part_for
+    part-again o class is =
+        let text : ObjectText = record { id = o; class = class.name; slots = map (named_text mm) ns } in
+        ap (λ o. at_member (codes "class") (or_wrong o) >>= (λ (class : ℕ). slots_for mm class text.slots >>= part_with text class)) (formed.classes_named c class is)
+        ∙ ap (λ r. r >>= part_with text c) slots-again

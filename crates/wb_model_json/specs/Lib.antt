@@ -4,5 +4,4 @@ pub mod ModelText
 pub mod Refusals
 pub mod RowText
 pub mod Rows
-pub mod Sayable
 pub mod Written

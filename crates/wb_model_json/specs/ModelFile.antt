@@ -1,9 +1,11 @@
 -- What a text is as a model over a metamodel: its contents, or the first code with the place of the first wrong spot.
 -- Each check goes over the whole text, one after the other.
-use Rattle.std.specs.Prelude.{⊤, ℕ, ◌+◌, ℤ, pos, negsuc, ◌^◌, ◌==◌, nat_eq, nat_lt, nat_le, Bool, if◌then◌else◌, List, [], ◌∷◌, ◌++◌, length, map, find, position, Option, Some, None, is_some, option_map, Result, Ok, Err, codes}
+use Rattle.std.specs.Prelude.{⊤, ℕ, ◌+◌, ℤ, pos, negsuc, ◌^◌, ◌==◌, nat_eq, nat_lt, nat_le, if◌then◌else◌, List, [], ◌∷◌, ◌++◌, length, map, find, position, Option, Some, None, option_map, Result, Ok, Err, codes}
 use Rattle.std.specs.Option.{option_or}
 use Rattle.std.specs.List.{list_any}
+use Rattle.wb_base.specs.Results.{◌>>=◌}
 use Rattle.wb_json.specs.Place.{Place, at_member, at_index}
+use Rattle.wb_json.specs.Refusals.{coded}
 use Rattle.wb_json.specs.Form.{in_turn, or_wrong}
 use Rattle.wb_json.specs.Json.{json_of}
 use Rattle.wb_metamodel.specs.Metamodel.{Metamodel, numbers, class_named, feature_named, feature_at, literal_named}
@@ -26,7 +28,7 @@ use Rattle.wb_model_json.specs.declared.model_text.ModelText.{ModelText}
 use Rattle.wb_model_json.specs.declared.refusal.ModelCode.{ModelCode}
 use Rattle.wb_model_json.specs.declared.refusal.ModelCode.TheVariants.{BadJson, BadShape, TooMany, DuplicateObject, UnknownName}
 use Rattle.wb_model_json.specs.ModelText.{model_of}
-use Rattle.wb_model_json.specs.Refusals.{◌>>=◌, broken_code, coded}
+use Rattle.wb_model_json.specs.Refusals.{broken_code}
 
 -- ---- numbers that repeat
 
@@ -34,9 +36,6 @@ use Rattle.wb_model_json.specs.Refusals.{◌>>=◌, broken_code, coded}
 abbrev pub repeat_from : ℕ → List ℕ → List ℕ → Option ℕ
 repeat_from i earlier [] = None
 repeat_from i earlier (n ∷ ns) = if list_any (nat_eq n) earlier then Some i else repeat_from (i + 1) (earlier ++ n ∷ []) ns
-
-abbrev pub has_repeat : List ℕ → Bool
-has_repeat ns = is_some (repeat_from 0 [] ns)
 
 -- ---- values
 
@@ -94,12 +93,8 @@ slot_for mm class member = at_member member.0 (slot_named mm class member.0 memb
 abbrev pub slots_for : Metamodel → ℕ → List (List ℕ × SlotText) → Result (List SlotPart) Place
 slots_for mm class members = at_member (codes "slots") (in_turn (slot_for mm class) members)
 
-abbrev pub feature_of : SlotPart → ℕ
-feature_of slot = slot.feature
-
--- the members of an object have names that differ, so no feature of a text stands twice
 abbrev pub part_with : ObjectText → ℕ → List SlotPart → Result Part Place
-part_with text class slots = if has_repeat (map feature_of slots) then Err [] else Ok (record { id = text.id; class = class; slots = slots })
+part_with text class slots = Ok (record { id = text.id; class = class; slots = slots })
 
 unfoldable pub part_for : Metamodel → ObjectText → Result Part Place
 part_for mm text =

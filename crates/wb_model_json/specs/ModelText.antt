@@ -3,7 +3,8 @@ use Rattle.std.specs.Prelude.{true, false, [], ◌∷◌, is_some, option_map, R
 use Rattle.serde_json.specs.Data.{Data, null, boolean, number, string, array, object}
 use Rattle.serde_json.specs.Find.{as_i64, as_array}
 use Rattle.wb_json.specs.Place.{Place}
-use Rattle.wb_json.specs.Form.{◌>>=◌, or_wrong, name_of, u32_of, list_of, listed, needed, members_of}
+use Rattle.wb_base.specs.Results.{◌>>=◌}
+use Rattle.wb_json.specs.Form.{or_wrong, name_of, u32_of, list_of, listed, needed, members_of}
 use Rattle.wb_model_json.specs.declared.model_text.ScalarText.{ScalarText}
 use Rattle.wb_model_json.specs.declared.model_text.ScalarText.TheVariants.{Number, Flag, Words}
 use Rattle.wb_model_json.specs.declared.model_text.SlotText.{SlotText}

@@ -3,7 +3,8 @@ use Rattle.std.specs.Prelude.{ℕ, Bool, ◌&&◌, nat_lt, if◌then◌else◌, 
 use Rattle.std.specs.List.{list_all}
 use Rattle.serde_json.specs.Data.{Data}
 use Rattle.wb_json.specs.Place.{Place}
-use Rattle.wb_json.specs.Form.{◌>>=◌, or_wrong, in_turn, name_of, listed, needed, members_of}
+use Rattle.wb_base.specs.Results.{◌>>=◌}
+use Rattle.wb_json.specs.Form.{or_wrong, in_turn, name_of, listed, needed, members_of}
 use Rattle.wb_metamodel.specs.Metamodel.{Metamodel, class_named, feature_at, feature_named}
 use Rattle.wb_ecore.specs.declared.features.Feature.{Feature}
 use Rattle.wb_store.specs.declared.scalars.Scalar.{Scalar}

@@ -6,7 +6,7 @@ use Rattle.std.specs.Ordering.{nat_cmp, is_lt}
 use Rattle.std.specs.Str.{is_utf8}
 use Rattle.serde_json.specs.Data.{Data, string, object, no_members, member}
 use Rattle.serde_json.specs.Written.{compact_text}
-use Rattle.wb_json.specs.Form.{◌>>=◌}
+use Rattle.wb_base.specs.Results.{◌>>=◌}
 use Rattle.wb_json.specs.ToJson.{members_json}
 use Rattle.wb_metamodel.specs.Metamodel.{Metamodel, feature_at, features_of}
 use Rattle.wb_ecore.specs.declared.features.Feature.{Feature}
@@ -20,7 +20,7 @@ use Rattle.wb_model_json.specs.declared.rows.RowSlot.{RowSlot}
 use Rattle.wb_model_json.specs.ByName.{by_name}
 use Rattle.wb_model_json.specs.ModelFile.{value_for}
 use Rattle.wb_model_json.specs.ModelText.{scalar_of}
-use Rattle.wb_model_json.specs.Sayable.{is_sayable}
+use Rattle.wb_validity.specs.Ranges.{is_in_range}
 use Rattle.wb_model_json.specs.Written.{class_name, feature_name, named_slots, scalar_data, slot_data}
 
 -- ---- what is written of a row
@@ -59,7 +59,7 @@ IsSaid mm kind value = (scalar_of (scalar_data mm value) >>= value_for mm kind) 
 pub record IsRowSlot (mm : Metamodel) (class : ℕ) (s : RowSlot) : Type 0 where
   pub of_class : has_feature mm class s.feature ≡ true
   pub count : has_count mm s.feature s.values ≡ true
-  pub sayable : list_all is_sayable s.values ≡ true
+  pub in_range : list_all is_in_range s.values ≡ true
   pub said : (feature : Feature) → feature_at mm s.feature ≡ Some feature → AllByRecursion (IsSaid mm feature.kind) s.values
 
 -- the slots ascend by the names of their features, so each feature stands once

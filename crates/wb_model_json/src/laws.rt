@@ -8,25 +8,22 @@ ghost use Rattle.wb_validity.specs.Valid.{IsValid};
 ghost use Rattle.wb_model_json.specs.ModelFile as file;
 ghost use Rattle.wb_model_json.specs.Rows.{IsTextOf, row_of};
 ghost use Rattle.wb_model_json.specs.declared.rows.ObjectRow.{ObjectRow};
-ghost use Rattle.wb_model_json.specs.Sayable.{IsSayable};
 ghost use Rattle.wb_model_json.specs.Written.{text_of, row_text};
 
-use crate::sayable::values_are_sayable;
 use wb_metamodel::ObjectId;
 use wb_model::Model;
 
 /// The text of a model is read again as an equal model.
 pub fn texts_of_models_are_read_again()
-    ensures { (m : Contents) → WellFormed m.metamodel → IsValid m → IsSayable m → file.model m.metamodel (text_of m) ≡ Ok m }
+    ensures { (m : Contents) → WellFormed m.metamodel → IsValid m → file.model m.metamodel (text_of m) ≡ Ok m }
 {}
 
-/// What is written of a model is read again as an equal model. It looks at each value of the model.
+/// What is written of a model is read again as an equal model.
 pub fn written_models_are_read_again(model: &Model)
     ensures { file.model model.now.metamodel (text_of model.now) ≡ Ok model.now }
 {
     model.valid();
     model.metamodel().well_formed();
-    values_are_sayable(model);
     texts_of_models_are_read_again();
 }
 
@@ -37,15 +34,14 @@ pub fn rows_are_told_apart_by_their_texts()
 
 /// What is written of an object is the text of its row, so this row is read of it.
 pub fn texts_of_objects_are_those_of_their_rows()
-    ensures { (m : Contents) → WellFormed m.metamodel → IsValid m → IsSayable m → (o c : ℕ) → kind m o ≡ Some c → IsTextOf m.metamodel (row_text m o) (row_of m o c) }
+    ensures { (m : Contents) → WellFormed m.metamodel → IsValid m → (o c : ℕ) → kind m o ≡ Some c → IsTextOf m.metamodel (row_text m o) (row_of m o c) }
 {}
 
-/// The same of an object of a model. It looks at each value of the model.
+/// The same of an object of a model.
 pub fn written_objects_are_read_again(model: &Model, o: ObjectId)
     ensures { (c : ℕ) → kind model.now o ≡ Some c → IsTextOf model.now.metamodel (row_text model.now o) (row_of model.now o c) }
 {
     model.valid();
     model.metamodel().well_formed();
-    values_are_sayable(model);
     texts_of_objects_are_those_of_their_rows();
 }

@@ -24,19 +24,39 @@ pub struct SlotText {
 }
 
 /// An object, with its slots by the names of their features.
-#[derive(Debug, Drop)]
+#[derive(Debug)]
 pub struct ObjectText {
     pub id: u32,
     pub class: Name,
     pub slots: Members<SlotText>,
 }
 
+impl Drop for ObjectText {
+    fn drop(self) {
+        let ObjectText {
+            id: _,
+            class: _class,
+            slots: _slots,
+        } = self;
+    }
+}
+
 /// A model, as its text says it.
-#[derive(Debug, Drop)]
+#[derive(Debug)]
 pub struct ModelText {
     pub next: u32,
     pub roots: List<u32>,
     pub objects: List<ObjectText>,
+}
+
+impl Drop for ModelText {
+    fn drop(self) {
+        let ModelText {
+            next: _,
+            roots: _roots,
+            objects: _objects,
+        } = self;
+    }
 }
 
 impl Form for ScalarText {

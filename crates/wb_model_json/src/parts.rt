@@ -1,15 +1,14 @@
-ghost use Rattle.std.specs.Prelude.{◌≡◌, ◌<◌, codes, is_some, length, map, [], IfOk, IfSome};
+ghost use Rattle.std.specs.Prelude.{◌≡◌, ◌<◌, codes, length};
 ghost use Rattle.wb_json.specs.Form.{Gives, in_turn, or_wrong};
 ghost use Rattle.wb_json.specs.Place.{at_index, at_member};
 ghost use Rattle.wb_metamodel.specs.Metamodel.{class_named};
 ghost use Rattle.wb_ecore.specs.Resolving.{walked};
-ghost use Rattle.wb_model_json.specs.ModelFile.{feature_of, has_repeat, parts_for, part_for, slots_for, slot_for, slot_named, slot_with};
+ghost use Rattle.wb_model_json.specs.ModelFile.{parts_for, part_for, slots_for, slot_for, slot_named, slot_with};
 
 use crate::features::{feature_at, feature_for};
 use crate::model_text::{ObjectText, SlotText};
-use crate::repeats::first_repeated;
 use crate::values::values_for;
-use std::alloc::{AllocError, Global};
+use std::alloc::Global;
 use wb_base::List;
 use wb_json::{Name, Wrong};
 use wb_metamodel::{ClassId, FeatureId, Metamodel, ObjectId};
@@ -59,9 +58,6 @@ fn part_for(alloc: Global, metamodel: &Metamodel, text: &ObjectText) -> Result<P
 {
     let class = class_for(alloc, metamodel, &text.class)?;
     let slots = slots_for(alloc, metamodel, class, text.slots.as_slice())?;
-    if has_repeat(alloc, slots.as_slice())? {
-        return Err(Wrong::here(alloc));
-    }
     Ok(Part {
         id: ObjectId(text.id),
         class,
@@ -76,15 +72,6 @@ fn class_for(alloc: Global, metamodel: &Metamodel, name: &Name) -> Result<ClassI
         Some(class) => Ok(class),
         None => Err(Wrong::here(alloc).in_member(alloc, "class")),
     }
-}
-
-// Does a feature stand twice?
-fn has_repeat(alloc: Global, slots: &[SlotPart]) -> Result<bool, AllocError>
-    ensures { IfOk result (λ repeats. repeats ≡ has_repeat (map feature_of slots.now)) }
-{
-    let features: Vec<u32> = slots.iter().map(|slot| slot.feature.0).collect(alloc)?;
-    let place = first_repeated(alloc, features.as_slice())?;
-    Ok(place.is_some())
 }
 
 fn slots_for(

@@ -1,8 +1,9 @@
-ghost use Rattle.std.specs.Prelude.{◌≡◌, Ok, Err, IfOk, codes, ◌++◌};
-ghost use Rattle.wb_json.specs.Form.{Gives};
+ghost use Rattle.std.specs.Prelude.{◌≡◌, Ok, Err, IfOk, List as Listed, ℕ};
+ghost use Rattle.wb_base.specs.Answering.{AsDefined};
+ghost use Rattle.wb_json.specs.Refusals.{code_at, coded};
 ghost use Rattle.wb_store.specs.Contents.{Contents};
 ghost use Rattle.wb_model_json.specs.ModelFile.{model, read_text, checked_parts, made, breach_at};
-ghost use Rattle.wb_model_json.specs.Refusals.{Answers, Refuses, broken_code, coded};
+ghost use Rattle.wb_model_json.specs.Refusals.{broken_code};
 
 use crate::checked::{breach_at, few, unrepeated};
 use crate::model_text::{ModelText, read_model_text};
@@ -10,18 +11,18 @@ use crate::parts::parts_for;
 use crate::refusal::{ModelCode, ModelFileRefusal, broken_code};
 use std::alloc::{AllocError, Global};
 use wb_base::{List, Text};
-use wb_json::{Wrong, parse_json};
+use wb_json::{FileRefusal, Wrong, at_root, coded, parse_json};
 use wb_metamodel::{Metamodel, ObjectId};
 use wb_model::{BuildRefusal, Model, Part, build};
 
 /// The model over a metamodel that a JSON text is, or what is wrong with it first, and where.
-
 pub fn read_model(
     alloc: Global,
     metamodel: Metamodel,
     bytes: &[u8],
 ) -> Result<Model, ModelFileRefusal>
-    ensures { Answers result (model metamodel bytes.now) }
+    ensures read { AsDefined code_at (model metamodel bytes.now) result }
+    ensures over { IfOk result (λ model. model.metamodel ≡ metamodel) }
 {
     let text = read_text(alloc, bytes)?;
     let parts = checked_parts(alloc, &metamodel, &text)?;
@@ -30,11 +31,11 @@ pub fn read_model(
 
 #[tactic(auto, unfolding(crate::specs::ModelFile::read_text))]
 fn read_text(alloc: Global, bytes: &[u8]) -> Result<ModelText, ModelFileRefusal>
-    ensures { Answers result (read_text bytes.now) }
+    ensures { AsDefined code_at (read_text bytes.now) result }
 {
     match parse_json(alloc, bytes)? {
         Some(value) => coded(alloc, ModelCode::BadShape, read_model_text(alloc, &value)),
-        None => Err(refused(
+        None => Err(at_root(
             alloc,
             ModelCode::BadJson,
             &Text::from_string(String::new(alloc)),
@@ -49,7 +50,7 @@ fn checked_parts(
     metamodel: &Metamodel,
     text: &ModelText,
 ) -> Result<List<Part>, ModelFileRefusal>
-    ensures { Answers result (checked_parts metamodel.now text.now) }
+    ensures { AsDefined code_at (checked_parts metamodel.now text.now) result }
 {
     let objects = text.objects.as_slice();
     coded(alloc, ModelCode::TooMany, few(alloc, objects))?;
@@ -65,7 +66,7 @@ fn checked_parts(
     )
 }
 
-/// The model that the objects of a text make.
+/// The model that the objects of a text make. The text was read, so no feature stands twice in an object.
 #[tactic(auto, unfolding(crate::specs::ModelFile::made))]
 fn made(
     alloc: Global,
@@ -73,23 +74,25 @@ fn made(
     text: &ModelText,
     parts: List<Part>,
 ) -> Result<Model, ModelFileRefusal>
-    requires { checked_parts metamodel text.now ≡ Ok parts }
-    ensures { Answers result (made metamodel text.now parts) }
+    requires read { (bytes : Listed ℕ) × (read_text bytes ≡ Ok text.now) }
+    requires parts { checked_parts metamodel text.now ≡ Ok parts }
+    ensures made { AsDefined code_at (made metamodel text.now parts) result }
+    ensures over { IfOk result (λ model. model.metamodel ≡ metamodel) }
 {
     let roots = roots_of(alloc, text.roots.as_slice())?;
     match build(alloc, metamodel, text.next, parts, roots) {
         Ok(model) => Ok(model),
         Err(BuildRefusal::Broken(number, object)) => Err(broken(alloc, text, number, object)),
-        Err(BuildRefusal::NoMemory) => Err(ModelFileRefusal::NoMemory),
+        Err(BuildRefusal::NoMemory) => Err(FileRefusal::NoMemory),
     }
 }
 
 fn broken(alloc: Global, text: &ModelText, number: u8, object: Option<ObjectId>) -> ModelFileRefusal
-    ensures { Answers {A = Contents} (Err result) (coded (broken_code number) (breach_at text.now.objects number object)) }
+    ensures { AsDefined {A = Contents} code_at (coded (broken_code number) (breach_at text.now.objects number object)) (Err result) }
 {
     match breach_at(alloc, text.objects.as_slice(), number, object) {
-        Wrong::At(place) => refused(alloc, broken_code(number), &place),
-        Wrong::NoMemory => ModelFileRefusal::NoMemory,
+        Wrong::At(place) => at_root(alloc, broken_code(number), &place),
+        Wrong::NoMemory => FileRefusal::NoMemory,
     }
 }
 
@@ -101,33 +104,4 @@ fn roots_of(alloc: Global, numbers: &[u32]) -> Result<List<ObjectId>, AllocError
         roots.push(ObjectId(*number))?;
     }
     Ok(List::from_vec(roots))
-}
-
-/// What was found, under this code.
-fn coded<T>(alloc: Global, code: ModelCode, found: Result<T, Wrong>) -> Result<T, ModelFileRefusal>
-    ensures { (given : _) → Gives found given → Answers result (coded code given) }
-{
-    match found {
-        Ok(value) => Ok(value),
-        Err(Wrong::At(place)) => Err(refused(alloc, code, &place)),
-        Err(Wrong::NoMemory) => Err(ModelFileRefusal::NoMemory),
-    }
-}
-
-fn refused(alloc: Global, code: ModelCode, place: &Text) -> ModelFileRefusal
-    ensures { Refuses result code place.now }
-{
-    match from_root(alloc, place) {
-        Ok(place) => ModelFileRefusal::At(code, place),
-        Err(_) => ModelFileRefusal::NoMemory,
-    }
-}
-
-/// A place, seen from the whole text.
-fn from_root(alloc: Global, place: &Text) -> Result<Text, AllocError>
-    ensures { IfOk result (λ whole. whole ≡ codes "#" ++ place.now) }
-{
-    let mut whole = String::from_str(alloc, "#")?;
-    whole.push_str(place.as_str())?;
-    Ok(Text::from_string(whole))
 }

@@ -1,9 +1,7 @@
 ghost use Rattle.std.specs.Prelude.{◌≡◌};
 ghost use Rattle.wb_model_json.specs.Refusals.{broken_code};
-ghost use Rattle.wb_model_json.specs.declared.refusal.ModelFileRefusal.TheVariants.{NoMemory};
 
-use std::alloc::{AllocError, AllocFailed};
-use wb_base::Text;
+use wb_json::FileRefusal;
 
 /// What is wrong with a model's text.
 #[derive(Clone, Copy, Debug, PartialEq, Eq)]
@@ -36,28 +34,7 @@ pub enum ModelCode {
 }
 
 /// Why there is no model.
-#[derive(Debug, Drop)]
-pub enum ModelFileRefusal {
-    /// What is wrong, and its place: `#` and a JSON Pointer (RFC 6901).
-    At(ModelCode, Text),
-    NoMemory,
-}
-
-impl From<AllocError> for ModelFileRefusal {
-    ghost from_gives = { λ _ refusal. refusal ≡ NoMemory };
-
-    fn from(_error: AllocError) -> ModelFileRefusal {
-        ModelFileRefusal::NoMemory
-    }
-}
-
-impl<T: Drop> From<AllocFailed<T>> for ModelFileRefusal {
-    ghost from_gives = { λ _ refusal. refusal ≡ NoMemory };
-
-    fn from(_failed: AllocFailed<T>) -> ModelFileRefusal {
-        ModelFileRefusal::NoMemory
-    }
-}
+pub type ModelFileRefusal = FileRefusal<ModelCode>;
 
 /// The code of a condition of a valid model, by its number from 1 to 10.
 pub fn broken_code(number: u8) -> ModelCode

@@ -2,17 +2,16 @@ ghost use Rattle.std.specs.Prelude.{◌≡◌, ◌<◌, length, Ok, true, None, 
 ghost use Rattle.serde_json.specs.View.{view};
 ghost use Rattle.wb_json.specs.Form.{Gives, in_turn};
 ghost use Rattle.wb_json.specs.Json.{json_of};
-ghost use Rattle.wb_metamodel.specs.Metamodel.{feature_named, same_name};
 ghost use Rattle.wb_model_json.specs.declared.rows.ObjectRow.{ObjectRow as Row};
 ghost use Rattle.wb_model_json.specs.RowText.{row_text_of, row_slot_with, row_slot_for, row_for, row_from, counted, is_known_row};
 ghost use Rattle.wb_model_json.specs.Rows.{IsTextOf, has_count, text_of_row};
 
 use crate::features::feature_at;
 use crate::model_text::SlotText;
+use crate::ranges::row_is_in_range;
 use crate::row_text::RowText;
 use crate::row_writing::row_text;
 use crate::rows::{ObjectRow, RowSlot};
-use crate::sayable::row_is_sayable;
 use crate::values::values_for;
 use std::alloc::{AllocError, Global};
 use wb_base::List;
@@ -50,7 +49,7 @@ fn written_row(
     metamodel.well_formed();
     match row_from(alloc, metamodel, value) {
         Ok(row) => {
-            row_is_sayable(&row);
+            row_is_in_range(&row);
             let written = row_text(alloc, metamodel, &row)?;
             if written.as_slice() == text {
                 Ok(Some(row))
@@ -111,19 +110,10 @@ fn slot_for(
     requires { class < length metamodel.now.classes }
     ensures { Gives result (row_slot_for metamodel.now class member.now) }
 {
-    match own_feature(metamodel, class, &member.0) {
+    match metamodel.feature_named(class, member.0.as_str().as_bytes()) {
         Some(feature) => slot_with(alloc, metamodel, &member.1, feature),
         None => Err(Wrong::here(alloc)),
     }
-}
-
-// The feature of that name of a class.
-fn own_feature(metamodel: &Metamodel, class: ClassId, name: &Name) -> Option<FeatureId>
-    requires { class < length metamodel.now.classes }
-    ensures same { result ≡ feature_named metamodel.now class name.now }
-    ensures known { IfSome result (λ f. f < length metamodel.now.features) }
-{
-    metamodel.feature_named(class, name.as_str().as_bytes())
 }
 
 #[tactic(auto, unfolding(crate::specs::RowText::row_slot_with))]

@@ -99,7 +99,7 @@ fn number_for(kind: Kind, number: i64) -> Scalar
 {
     match kind {
         Kind::Reference(_) => object_number(number),
-        _ => Scalar::Int(number),
+        Kind::Int | Kind::Bool | Kind::Text | Kind::Enum(_) => Scalar::Int(number),
     }
 }
 
@@ -119,7 +119,9 @@ fn words_for(alloc: Global, metamodel: &Metamodel, kind: Kind, text: &Text) -> R
 {
     match kind {
         Kind::Enum(enumeration) => literal_for(alloc, metamodel, enumeration, text),
-        _ => Ok(Scalar::Text(text.copy(alloc)?)),
+        Kind::Int | Kind::Bool | Kind::Text | Kind::Reference(_) => {
+            Ok(Scalar::Text(text.copy(alloc)?))
+        }
     }
 }
 

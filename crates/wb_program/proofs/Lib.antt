@@ -10,6 +10,5 @@ pub mod OnTop
 pub mod OverFiles
 pub mod OverMetamodels
 pub mod Prefixes
-pub mod ReadModels
 pub mod Searches
 pub mod StepLemmas

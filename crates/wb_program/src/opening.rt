@@ -17,7 +17,7 @@ use std::alloc::Global;
 use wb_json::FileRefusal;
 use wb_metamodel::{Metamodel, read_metamodel};
 use wb_model::Model;
-use wb_model_json::{ModelFileRefusal, read_model};
+use wb_model_json::read_model;
 use wb_outer::{Bytes, Shelf};
 
 const MAX_MODEL_BYTES: usize = 1_048_576;
@@ -92,15 +92,14 @@ fn small_model(alloc: Global, metamodel: Metamodel, bytes: &[u8]) -> Result<Mode
 }
 
 /// The valid model that these bytes are over the metamodel, if they are one.
-#[tactic(auto, using(crate::proofs::ReadModels::read_over))]
 fn valid_model(alloc: Global, metamodel: Metamodel, bytes: &[u8]) -> Result<Model, Refusal>
     ensures found { Finds result (result_ok (model metamodel bytes.now)) }
     ensures over { IfOk result (λ model. model.metamodel ≡ metamodel) }
 {
     match read_model(alloc, metamodel, bytes) {
         Ok(model) => Ok(model),
-        Err(ModelFileRefusal::At(..)) => Err(Refusal::NotThin),
-        Err(ModelFileRefusal::NoMemory) => Err(Refusal::NoMemory),
+        Err(FileRefusal::At(..)) => Err(Refusal::NotThin),
+        Err(FileRefusal::NoMemory) => Err(Refusal::NoMemory),
     }
 }
 

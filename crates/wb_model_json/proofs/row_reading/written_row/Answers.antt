@@ -10,7 +10,7 @@ row_text-requires c = row-known c.args.metamodel.now (view c.args.value.now) c.i
 pub returns-then-eq-clause-row : goal.returns-then-eq-clause-row
 returns-then-eq-clause-row c =
     same-text c.args.metamodel.now c.well_formed-2.ensures c.args.text.now (view c.args.value.now) c.requires c.in-Ok.row c.in-Ok.ensures c.as_slice.result.now (c.as_slice.ensures.same ∙ c.in_ok-written-in-Ok.ensures) c.eq.result c.eq.ensures c.if-eq.true
-    (row-sound c.args.metamodel.now c.args.text.now (view c.args.value.now) c.in-Ok.row c.requires c.in-Ok.ensures c.row_is_sayable.ensures)
+    (row-sound c.args.metamodel.now c.args.text.now (view c.args.value.now) c.in-Ok.row c.requires c.in-Ok.ensures c.row_is_in_range.ensures)
 
 pub returns-in-Ok-clause-none : goal.returns-in-Ok-clause-none
 returns-in-Ok-clause-none c = λ none r t.
