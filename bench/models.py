@@ -1,7 +1,7 @@
 #!/usr/bin/env python3
 """Reads, writes and edits libraries of 2,000 and 20,000 objects with a proved program, and prints what each run costs.
 
-Usage, from the top of the checkout, after `rt ci` has built the program of `model_cases`:
+Usage, from the top of the checkout, after `rt ci` has built the program of `cases_models`:
     python3 bench/models.py
 A library has books, authors, members, and loans with a book and a member each. Instructions are counted with valgrind's callgrind where it
 is installed; seconds are those of one run. What `write` and `set` cost beyond reading is the difference to `read`.
@@ -9,8 +9,8 @@ is installed; seconds are those of one run. What `write` and `set` cost beyond r
 import json, os, subprocess, tempfile, time
 from draw import TOP, cost
 
-PROGRAM = os.path.join(TOP, "crates/model_cases/out/model_cases")
-METAMODEL = os.path.join(TOP, "crates/model_cases/data/library.metamodel.json")
+PROGRAM = os.path.join(TOP, "crates/cases_models/out/cases_models")
+METAMODEL = os.path.join(TOP, "crates/cases_models/data/library.metamodel.json")
 
 
 def numbers_of(count):

@@ -5,7 +5,7 @@ mod cases;
 mod shown;
 
 use crate::cases::outcomes;
-use bench_files::{file_in, model_in};
+use cases_files::{file_in, model_in};
 use std::alloc::{AllocError, Global};
 use std::process::ExitCode;
 use wb_base::Text;

@@ -36,19 +36,10 @@ impl Drop for EdgeKey {
 }
 
 /// The key of an element of either sort.
-#[derive(Debug, PartialEq, Eq, PartialOrd, Ord, Hash)]
+#[derive(Debug, Drop, PartialEq, Eq, PartialOrd, Ord, Hash)]
 pub enum AnyKey {
     Node(Key),
     Edge(EdgeKey),
-}
-
-impl Drop for AnyKey {
-    fn drop(self) {
-        match self {
-            AnyKey::Node(_key) => {}
-            AnyKey::Edge(_key) => {}
-        }
-    }
 }
 
 impl Duplicate for Pair {

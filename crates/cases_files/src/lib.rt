@@ -1,4 +1,4 @@
-//! The models in files, for the programs of `bench/`.
+//! The models in files, for the programs of cases.
 #![tactic(auto)]
 
 mod models;

@@ -3,27 +3,38 @@ use std::alloc::AllocError;
 use wb_metamodel::{ClassId, FeatureId, Metamodel, ObjectId};
 use wb_model::{ModelRefusal, Scalar};
 
-pub fn push_edited(shown: &mut String, answer: Result<(), ModelRefusal>) -> Result<(), AllocError> {
+pub fn push_edited(
+    shown: &mut String,
+    answer: Result<(), ModelRefusal>,
+) -> Result<bool, AllocError> {
     match answer {
-        Ok(()) => shown.push_str("done"),
-        Err(refusal) => push_refusal(shown, refusal),
+        Ok(()) => shown.push_str("done")?,
+        Err(refusal) => push_refusal(shown, refusal)?,
     }
+    Ok(true)
 }
 
 pub fn push_creation(
     shown: &mut String,
     answer: Result<ObjectId, ModelRefusal>,
-) -> Result<(), AllocError> {
+) -> Result<bool, AllocError> {
     match answer {
-        Ok(o) => write!(shown, "created {}", o.0),
-        Err(refusal) => push_refusal(shown, refusal),
+        Ok(o) => write!(shown, "created {}", o.0)?,
+        Err(refusal) => push_refusal(shown, refusal)?,
     }
+    Ok(true)
 }
 
 fn push_refusal(shown: &mut String, refusal: ModelRefusal) -> Result<(), AllocError> {
     match refusal {
+        ModelRefusal::UnknownObject => shown.push_str("UnknownObject"),
+        ModelRefusal::KindMismatch => shown.push_str("KindMismatch"),
+        ModelRefusal::UpperBound => shown.push_str("UpperBound"),
+        ModelRefusal::ContainmentCycle => shown.push_str("ContainmentCycle"),
+        ModelRefusal::AbstractClass => shown.push_str("AbstractClass"),
+        ModelRefusal::TooManyObjects => shown.push_str("TooManyObjects"),
+        ModelRefusal::IdsSpent => shown.push_str("IdsSpent"),
         ModelRefusal::NoMemory => Err(AllocError),
-        refusal => write!(shown, "{refusal:?}"),
     }
 }
 
