@@ -1,4 +1,4 @@
-"""Model files from the words of their definitions, for walk.py: the first code and place of the checks in their order."""
+"""Model files from the words of their definitions, for models.py: the first code and place of the checks in their order."""
 import collections, json, math, re
 from plain_models import LAST, MOST_OBJECTS, MOST_VALUES, Model, written
 
@@ -107,6 +107,26 @@ def read(metamodel, text):
     model = Model(metamodel, found["next"], kinds, links, found["roots"])
     check_conditions(model, misshapen, places)
     return model
+
+
+def row(metamodel, text):
+    """The class and the slots of the one object that a text says, where it is written as an object is; else nothing."""
+    found = json_of(text)
+    if type(found) is not dict or set(found) != {"class", "slots"} or type(found["slots"]) is not dict or written(found) != text:
+        return None
+    c = metamodel.class_numbers.get(found["class"]) if type(found["class"]) is str else None
+    slots = [(metamodel.named(c, name), slot) for name, slot in sorted(found["slots"].items())] if c is not None else []
+    if c is None or any(f is None or slot == [] or (type(slot) is list) != metamodel.features[f].many for f, slot in slots):
+        return None
+    listed = [(f, slot if type(slot) is list else [slot]) for f, slot in slots]
+    if any(type(item) not in (int, bool, str) for _, items in listed for item in items):
+        return None
+    return c, [(f, [in_row(value_of(metamodel, metamodel.features[f].kind, item, ())) for item in items]) for f, items in listed]
+
+
+def in_row(value):
+    """A number that can be no object's stays a number."""
+    return ("Int", value[1]) if value[0] == "Object" and not 0 <= value[1] <= LAST else value
 
 
 def named_anywhere(metamodel, c, name):

@@ -1,10 +1,10 @@
 #!/usr/bin/env python3
-"""Evaluates expressions from the words of docs/DEFINITIONS.md alone, and prints value and reads of each.
+"""Evaluates expressions from the words of docs/DEFINITIONS.md alone, and gives value and reads of each.
 
-    recompute.py METAMODEL MODEL EXPRESSIONS
+    python3 expected/evaluations.py METAMODEL MODEL EXPRESSIONS     prints them
 
 A line of EXPRESSIONS is the number of the object that `self` is, a space and an expression. This program shares nothing with the
-crates: the expected output of crates/eval_cases is what it prints.
+crates.
 """
 import json
 import re
@@ -569,19 +569,23 @@ def shown(value):
     return form(value)
 
 
-def main():
-    metamodel = Metamodel(json.load(open(sys.argv[1])))
-    model = Model(metamodel, json.load(open(sys.argv[2])))
-    for line in open(sys.argv[3]).read().splitlines():
-        number, text = line.split(" ", 1)
-        evaluation = Evaluation(model)
-        try:
-            answer = shown(evaluation.value(Parser(text).whole(), {"self": Object(int(number))}))
-        except Fault as fault:
-            answer = fault.args[0]
-        print(f"{line} => {answer} ;{''.join(' ' + cell.replace(', ', ',') for cell in evaluation.reads)}")
+def lines(metamodel, model, expressions):
+    """What the program prints for the files of a metamodel, a model and expressions."""
+    metamodel = Metamodel(json.load(open(metamodel)))
+    model = Model(metamodel, json.load(open(model)))
+    return [outcome(model, *line.split(" ", 1)) for line in open(expressions).read().splitlines()]
 
+
+def outcome(model, number, text):
+    evaluation = Evaluation(model)
+    try:
+        answer = shown(evaluation.value(Parser(text).whole(), {"self": Object(int(number))}))
+    except Fault as fault:
+        answer = fault.args[0]
+    return f"{number} {text} => {answer} ;{''.join(' ' + cell.replace(', ', ',') for cell in evaluation.reads)}"
+
+
+sys.setrecursionlimit(100000)
 
 if __name__ == "__main__":
-    sys.setrecursionlimit(100000)
-    main()
+    print("\n".join(lines(*sys.argv[1:])))

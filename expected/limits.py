@@ -1,17 +1,16 @@
 #!/usr/bin/env python3
 """Asks a proved program about models at their limits, and compares what it answers with what is recomputed.
 
-Usage, from the top of the checkout, after `(cd crates/model_cases && rt run)` has built the program:
-    python3 bench/limits.py
+Usage, from the top of the checkout, after `(cd crates/cases_models && rt run)` has built the program:
+    python3 expected/limits.py
 """
 import json, os, subprocess, sys, tempfile
-from draw import TOP
+from models import DATA, answer, text_of
 from plain_files import read
 from plain_models import Metamodel
-from walk import answer, data
 
-PROGRAM = os.path.join(TOP, "crates/model_cases/out/model_cases")
-TOWN = os.path.join(TOP, "crates/model_cases/data/town.metamodel.json")
+PROGRAM = os.path.join(DATA, "../out/cases_models")
+TOWN = os.path.join(DATA, "town.metamodel.json")
 
 
 def model(objects):
@@ -51,7 +50,7 @@ def main():
                 with open(name, "w", encoding="utf-8") as file:
                     file.write(content)
             told = subprocess.run([PROGRAM, TOWN, *names], capture_output=True, text=True, encoding="utf-8").stdout.splitlines()
-            m = read(Metamodel(json.loads(data("town.metamodel.json"))), text)
+            m = read(Metamodel(json.loads(text_of(TOWN))), text)
             wanted = [f"{line} => {answer(m, line)}" for line in lines]
             wrong += told != wanted
             for line, found in zip(lines, told):

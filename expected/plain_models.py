@@ -1,4 +1,4 @@
-"""Models and edits from the words of their definitions, for walk.py.
+"""Models and edits from the words of their definitions, for models.py.
 
 A model is a list of links (object, feature, value) that is filtered and appended to. Nothing is shared with the crates.
 """

@@ -1,16 +1,14 @@
 #!/usr/bin/env python3
-"""Recomputes what crates/model_cases prints from the words of the definitions of Model, Edit and Cell contents, and makes the script of its random walk.
+"""Recomputes what crates/cases_models prints from the words of the definitions of Model, Edit and Cell contents, and makes the script of its random walk.
 
-Usage, from the top of the checkout:
-    python3 bench/walk.py make      writes crates/model_cases/data/walk.script, and prints how often each answer comes
-    python3 bench/walk.py expect    prints what crates/model_cases/stdout has to be
+    python3 expected/models.py      writes crates/cases_models/data/walk.script, and prints how often each answer comes
 A line of a script is an edit or a look, and is answered by `?` where a word of it says nothing.
 """
-import collections, hashlib, json, os, random, re, sys
-from plain_files import Refused, read
+import collections, hashlib, json, os, random, re
+from plain_files import Refused, read, row
 from plain_models import LAST, Metamodel, written
 
-CRATE = os.path.join(os.path.dirname(os.path.abspath(__file__)), "../crates/model_cases")
+DATA = os.path.join(os.path.dirname(os.path.abspath(__file__)), "../crates/cases_models/data")
 
 
 class Wrong(Exception):
@@ -97,6 +95,38 @@ def a_row(m, o):
     return written(m.row(o))
 
 
+def a_read_row(m, text):
+    try:
+        found = row(m.metamodel, text)
+    except Refused:
+        found = None
+    if found is None:
+        return "no row"
+    return " ".join([m.metamodel.classes[found[0]]["name"]] + [f"{m.feature(f).shown} {spaced(map(shown, values))}" for f, values in found[1]])
+
+
+PATH = r"(?:0|[1-9][0-9]*)\.(?:0|[1-9][0-9]*)(?:-(?:0|[1-9][0-9]*)\.(?:0|[1-9][0-9]*)){0,31}"
+PAIR = r"(?:0|[1-9][0-9]*)\.(?:0|[1-9][0-9]*)"
+
+
+def a_problem(sort, number, key):
+    """The text of a diagram whose only problem is that of a unit."""
+    is_number, is_path = re.fullmatch("[0-9]+", number), re.fullmatch(PATH, key)
+    is_key = is_path or re.fullmatch(f"{PAIR}:{PATH}:{PATH}", key)
+    forms = {"candidates": is_number and (is_path or not is_key) and f"{sort} {number} {key}", "edge-candidates": is_number and not is_key and f"{sort} {number}",
+             "precondition": not is_number and is_path and f"{sort} {key}"}
+    forms |= {name: is_number and is_key and f"{name} {number} {key}" for name in ("style", "label", "filter")}
+    forms |= {name: not is_number and is_path and f"{name} {key.split('-')[0]}" for name in ("edge-precondition", "source", "target")}
+    if not forms.get(sort):
+        raise Wrong
+    return written({"edges": [], "elements": [], "filters": [], "layers": [], "problems": [{"at": forms[sort], "fault": "NotBool"}], "revision": 7})
+
+
+def emptied(m):
+    m.__init__(m.metamodel, 1, {}, [], [])
+    return "emptied"
+
+
 ANSWERS = {
     "create": lambda m, x, y, z, _: m.create(a_class(m, z), None if x == "root" else an_object(x), None if x == "root" else a_feature(m, y)),
     "set": lambda m, x, y, z, _: m.put(an_object(x), a_feature(m, y), a_value(z), False),
@@ -119,6 +149,9 @@ ANSWERS = {
     "row": lambda m, *words: a_row(m, an_object(words[-1])),
     "read": lambda m, *words: a_reading(m, words[-1]),
     "copy": lambda m, *_: "copied",
+    "empty": lambda m, *_: emptied(m),
+    "object": lambda m, *words: a_read_row(m, words[-1]),
+    "problem": lambda m, x, y, z, _: a_problem(x, y, z),
     "all": lambda m, *_: "\n" + readers(m),
     "readers": lambda m, *_: hashlib.md5(readers(m).encode()).hexdigest()}
 
@@ -198,31 +231,27 @@ def walk(m):
     return lines, counts
 
 
-def data(name):
-    with open(os.path.join(CRATE, "data", name), encoding="utf-8", newline="") as file:
+def text_of(path):
+    with open(path, encoding="utf-8", newline="") as file:
         return file.read()
 
 
 def opened(metamodel, model):
-    return read(Metamodel(json.loads(data(metamodel))), data(model))
+    return read(Metamodel(json.loads(text_of(metamodel))), text_of(model))
+
+
+def lines(metamodel, model, script):
+    """What the program prints for the files of a metamodel, a model and a script."""
+    m = opened(metamodel, model)
+    return [f"{line} => {answer(m, line)}" for line in text_of(script).removesuffix("\n").split("\n")]
 
 
 def main():
-    if sys.argv[1:] == ["make"]:
-        lines, counts = walk(opened("town.metamodel.json", "town.model.json"))
-        with open(os.path.join(CRATE, "data/walk.script"), "w", encoding="utf-8") as file:
-            file.write("".join(line + "\n" for line in lines))
-        for (name, word), count in sorted(counts.items()):
-            print(f"{name} {word}: {count}")
-    elif sys.argv[1:] == ["expect"]:
-        with open(os.path.join(CRATE, "args"), encoding="utf-8") as file:
-            names = file.read().split()
-        for metamodel, model, script in zip(names[::3], names[1::3], names[2::3]):
-            m = opened(metamodel, model)
-            for line in data(script).removesuffix("\n").split("\n"):
-                print(f"{line} => {answer(m, line)}")
-    else:
-        sys.exit(__doc__)
+    made, counts = walk(opened(*(os.path.join(DATA, name) for name in ("town.metamodel.json", "town.model.json"))))
+    with open(os.path.join(DATA, "walk.script"), "w", encoding="utf-8") as file:
+        file.write("".join(line + "\n" for line in made))
+    for (name, word), count in sorted(counts.items()):
+        print(f"{name} {word}: {count}")
 
 
 if __name__ == "__main__":
