@@ -21,9 +21,6 @@ returns-in_err-parts-clause-read c =
     answered_then code_at (read_text c.args.bytes.now) (λ (text : ModelText). checked_parts c.args.metamodel text >>= made c.args.metamodel text) c.in_ok-text.text r.result c.in_ok-text.ensures
     (refused r.result p.0 c.in_err-parts.field-0.0 (checked_parts c.args.metamodel c.in_ok-text.text) (made c.args.metamodel c.in_ok-text.text) p.1 p.2 c.in_err-parts.ensures)
 
-pub made-requires-read : goal.made-requires-read
-made-requires-read c = (c.args.bytes.now, c.in_ok-text.ensures)
-
 pub returns-clause-read : goal.returns-clause-read
 unfolding model
 returns-clause-read c =
