@@ -4,10 +4,10 @@
     python3 expected/compare.py
 
 The words of such a program, in its `args`, are files in threes: a metamodel, a model, and a script of edits and looks or a file of
-expressions. Its `stdout` is what the gate holds its output to.
+expressions. Or they are one `.json` file of cases of the whole program. Its `stdout` is what the gate holds its output to.
 """
 import glob, itertools, os, sys
-import evaluations, models
+import evaluations, models, program
 
 TOP = os.path.dirname(os.path.dirname(os.path.abspath(__file__)))
 MAKERS = {".script": models.lines, ".expressions": evaluations.lines}
@@ -15,6 +15,8 @@ MAKERS = {".script": models.lines, ".expressions": evaluations.lines}
 
 def made(folder, names):
     """The lines for all files of a program; none where it is of another kind."""
+    if len(names) == 1 and names[0].endswith(".json"):
+        return list(program.lines(os.path.join(folder, "data", names[0])))
     if len(names) % 3 or not names or {os.path.splitext(name)[1] for name in names[2::3]} - set(MAKERS):
         return None
     files = [os.path.join(folder, "data", name) for name in names]
@@ -30,7 +32,7 @@ def main():
         if wanted is None:
             continue
         kept = models.text_of(os.path.join(folder, "stdout")).splitlines()
-        lines = "\n".join(wanted).splitlines()
+        lines = "".join(f"{line}\n" for line in wanted).splitlines()
         first = next((n for n, (one, other) in enumerate(itertools.zip_longest(kept, lines)) if one != other), None)
         compared += 1
         wrong += first is not None
