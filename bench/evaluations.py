@@ -1,7 +1,7 @@
 #!/usr/bin/env python3
 """Evaluates expressions over libraries of 100, 1,000 and 10,000 books with a proved program, and prints what each costs.
 
-Usage, from the top of the checkout, after `(cd crates/eval_cases && rt run)` has built the program:
+Usage, from the top of the checkout, after `(cd crates/cases_evaluation && rt run)` has built the program:
     python3 bench/evaluations.py
 Half of the books have a loan. What reading the model costs is taken off: it is the cost of a run without expressions. Printing the reads
 is counted.
@@ -10,7 +10,7 @@ import json, os, tempfile
 from draw import TOP, cost
 from models import METAMODEL, link, seconds
 
-PROGRAM = os.path.join(TOP, "crates/eval_cases/out/eval_cases")
+PROGRAM = os.path.join(TOP, "crates/cases_evaluation/out/cases_evaluation")
 EXPRESSIONS = ["self.books->select(b | b.loans->isEmpty())->size()", "self.eAllContents()->size()", "self.books.title->size()"]
 
 

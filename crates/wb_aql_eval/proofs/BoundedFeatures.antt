@@ -87,14 +87,14 @@ slot_held : (m : Contents) → Valid m → (o f : ℕ) → AreHeld m.metamodel (
 slot_held m v o f = one (slot m o f) refl
   where
     one : (xs : List Scalar) → slot m o f ≡ xs → AreBounded m.metamodel xs × (differ xs ≡ true)
-    one [] e = (record { few = omega arith; bounded = refl }, refl)
+    one [] e = (record { not_long = omega arith; bounded = refl }, refl)
     one (x ∷ xs) e =
         let first : In x (slot m o f) = subst (λ ys. In x ys) (sym e) in_front in
         let short = subst (λ ys. nat_le (length ys) (room m.metamodel f) ≡ true) e (at_slot m (λ o f values. nat_le (length values) (room m.metamodel f)) v.slots_have_room o f x first) in
         let kinds = subst (λ ys. list_all (is_of_feature m f) ys ≡ true) e (at_slot m (λ o f values. list_all (is_of_feature m f) values) v.values_are_of_kinds o f x first) in
-        let few = le_of_test _ _ short in
+        let not_long = le_of_test _ _ short in
         let roomy = room_below m.metamodel f in (
-          record { few = omega arith; bounded = bounded_all m f (x ∷ xs) kinds },
+          record { not_long = omega arith; bounded = bounded_all m f (x ∷ xs) kinds },
           subst (λ ys. differ ys ≡ true) e (at_slot m (λ o f values. differ values) v.values_differ o f x first),
         )
 

@@ -6,7 +6,7 @@ use Rattle.wb_store.specs.declared.scalars.Cell.TheVariants.{Slot}
 use Rattle.wb_store.specs.Contents.{Contents, slot}
 use Rattle.wb_store.specs.Features.{is_many}
 use Rattle.wb_aql_values.specs.declared.faults.Fault.TheVariants.{NoFeature}
-use Rattle.wb_aql_values.specs.declared.faults.Stop.{Stop}
+use Rattle.wb_aql_values.specs.declared.faults.Halt.{Halt}
 use Rattle.wb_aql_values.specs.declared.values.Value.{Value}
 use Rattle.wb_aql_values.specs.Readings.{contents, Reading, done, held, given, class_of, ◌>>=◌}
 use Rattle.wb_aql_values.specs.Runs.{run, with_read, Gives}
@@ -21,7 +21,7 @@ module _ (m : Contents) (name : List ℕ) (o : ℕ) (old : List Cell) where
   behind : ℕ → Reading Value
   behind class = given (known (feature_named m.metamodel class name)) >>= in_slot
 
-  pub class_stopped : (stop : Stop) (reads : List Cell) → Gives (run (class_of o) (contents m) old) (Err stop) reads → Gives (run (feature_of_object m.metamodel name o) (contents m) old) (Err stop) reads
+  pub class_stopped : (stop : Halt) (reads : List Cell) → Gives (run (class_of o) (contents m) old) (Err stop) reads → Gives (run (feature_of_object m.metamodel name o) (contents m) old) (Err stop) reads
   unfolding feature_of_object behind in_slot
   class_stopped stop reads h = stopped behind (contents m) (class_of o) old stop reads h
 

@@ -6,16 +6,17 @@ use Rattle.wb_store.specs.declared.scalars.Cell.{Cell}
 use Rattle.wb_store.specs.declared.scalars.Scalar.{Scalar}
 use Rattle.wb_aql_grammar.specs.declared.expr.Binary.{Binary}
 use Rattle.wb_aql_values.specs.declared.faults.Fault.{Fault}
-use Rattle.wb_aql_values.specs.declared.faults.Stop.{Stop}
-use Rattle.wb_aql_values.specs.declared.faults.Stop.TheVariants as s
+use Rattle.wb_aql_values.specs.declared.faults.Halt.{Halt}
+use Rattle.wb_aql_values.specs.declared.faults.Halt.TheVariants as s
 use Rattle.wb_aql_values.specs.declared.values.Value.{Value}
 use Rattle.wb_aql_values.specs.Readings.{Content, Reading, done, given, ◌>>=◌}
 use Rattle.wb_aql_values.specs.Runs.{Ran, run, Gives}
 use Rattle.wb_aql_values.proofs.RunLemmas.{followed, stopped, gives_next, run_done}
-use Rattle.wb_aql_eval.specs.Answers.{Is}
+use Rattle.wb_base.specs.Answering.{AsDefined}
+use Rattle.wb_aql_values.specs.Runs.{fault_in}
 use Rattle.wb_aql_eval.specs.Operators.{truth, decided, combined}
 use Rattle.wb_aql_eval.specs.Iterations.{tested, kept, sift, first_that}
-use Rattle.wb_aql_eval.specs.Meaning.{operated, chosen, unless_decided, after}
+use Rattle.wb_aql_eval.specs.Meaning.{continued, chosen, unless_decided, after}
 
 module _ (m : (c : Cell) → Content c) (old : List Cell) where
   -- ---- what looks at nothing
@@ -25,7 +26,7 @@ module _ (m : (c : Cell) → Content c) (old : List Cell) where
   run_given (Ok x) = refl
   run_given (Err fault) = refl
 
-  pub given_gives : {A : Type 0} (x : Result A Fault) (result : Result A Stop) → Is x result → Gives (run (given x) m old) result old
+  pub given_gives : {A : Type 0} (x : Result A Fault) (result : Result A Halt) → AsDefined fault_in x result → Gives (run (given x) m old) result old
   given_gives x (Ok y) h = run_given x ∙ ap (λ g. record { gave = g; reads = old }) h
   given_gives x (Err (s.Fault fault)) h = run_given x ∙ ap (λ g. record { gave = g; reads = old }) h
   given_gives x (Err s.NoMemory) h = tt
@@ -33,45 +34,37 @@ module _ (m : (c : Cell) → Content c) (old : List Cell) where
   pub given_next : {A B : Type 0} (x : Result A Fault) (y : A) (next : A → Reading B) → x ≡ Ok y → run (given x >>= next) m old ≡ run (next y) m old
   given_next x y next e = followed next m (given x) old y old (given_gives x (Ok y) e)
 
-  pub given_stops : {A B : Type 0} (x : Result A Fault) (stop : Stop) (next : A → Reading B) → Is x (Err stop) → Gives (run (given x >>= next) m old) (Err stop) old
+  pub given_stops : {A B : Type 0} (x : Result A Fault) (stop : Halt) (next : A → Reading B) → AsDefined fault_in x (Err stop) → Gives (run (given x >>= next) m old) (Err stop) old
   given_stops x stop next h = stopped next m (given x) old stop old (given_gives x (Err stop) h)
 
-module _ {B : Type 0} (result : Result B Stop) (new : List Cell) where
+module _ {B : Type 0} (result : Result B Halt) (new : List Cell) where
   -- what is given by an equal run
   pub gives_equal : (one other : Ran B) → one ≡ other → Gives other result new → Gives one result new
   gives_equal one other e h = subst (λ ran. Gives ran result new) (sym e) h
 
 -- ---- operators
 
-module _ (mm : Metamodel) (o : Binary) (left right : Reading Value) (m : (c : Cell) → Content c) (old : List Cell) where
-  behind : Value → Option Value → Reading Value
-  behind v early = unless_decided early (right >>= λ w. given (combined mm o v w))
+module _ (mm : Metamodel) (o : Binary) (right : Reading Value) (m : (c : Cell) → Content c) (v : Value) (reads : List Cell) where
+  behind : Option Value → Reading Value
+  behind early = unless_decided early (right >>= λ w. given (combined mm o v w))
 
-  pub left_stopped : (stop : Stop) (reads : List Cell) → Gives (run left m old) (Err stop) reads → Gives (run (operated mm o left right) m old) (Err stop) reads
-  unfolding operated behind
-  left_stopped stop reads h = stopped (λ v. given (decided o v) >>= behind v) m left old stop reads h
+  pub not_decided : (stop : Halt) → AsDefined fault_in (decided o v) (Err stop) → Gives (run (continued mm o right v) m reads) (Err stop) reads
+  unfolding continued behind
+  not_decided stop h = given_stops m reads (decided o v) stop behind h
 
-  module _ (v : Value) (reads : List Cell) (e : run left m old ≡ record { gave = Ok v; reads = reads }) where
-    go : run (operated mm o left right) m old ≡ run (given (decided o v) >>= behind v) m reads
-    unfolding operated behind
-    go = followed (λ v. given (decided o v) >>= behind v) m left old v reads e
+  pub decided_early : (w : Value) → decided o v ≡ Ok (Some w) → run (continued mm o right v) m reads ≡ record { gave = Ok w; reads = reads }
+  unfolding continued behind run
+  decided_early w h = given_next m reads (decided o v) (Some w) behind h
 
-    pub not_decided : (stop : Stop) → Is (decided o v) (Err stop) → Gives (run (operated mm o left right) m old) (Err stop) reads
-    not_decided stop h = gives_equal (Err stop) reads _ _ go (given_stops m reads (decided o v) stop (behind v) h)
-
-    pub decided_early : (w : Value) → decided o v ≡ Ok (Some w) → run (operated mm o left right) m old ≡ record { gave = Ok w; reads = reads }
-    unfolding behind run
-    decided_early w h = go ∙ given_next m reads (decided o v) (Some w) (behind v) h
-
-    pub goes_right : decided o v ≡ Ok None → run (operated mm o left right) m old ≡ run (after right (λ w. given (combined mm o v w))) m reads
-    unfolding behind
-    goes_right h = go ∙ given_next m reads (decided o v) None (behind v) h
+  pub goes_right : decided o v ≡ Ok None → run (continued mm o right v) m reads ≡ run (after right (λ w. given (combined mm o v w))) m reads
+  unfolding continued behind
+  goes_right h = given_next m reads (decided o v) None behind h
 
 module _ (condition first second : Reading Value) (m : (c : Cell) → Content c) (old : List Cell) where
   choice : Bool → Reading Value
   choice b = if b then first else second
 
-  pub condition_stopped : (stop : Stop) (reads : List Cell) → Gives (run condition m old) (Err stop) reads → Gives (run (chosen condition first second) m old) (Err stop) reads
+  pub condition_stopped : (stop : Halt) (reads : List Cell) → Gives (run condition m old) (Err stop) reads → Gives (run (chosen condition first second) m old) (Err stop) reads
   unfolding chosen choice
   condition_stopped stop reads h = stopped (λ v. given (truth v) >>= choice) m condition old stop reads h
 
@@ -80,7 +73,7 @@ module _ (condition first second : Reading Value) (m : (c : Cell) → Content c)
     unfolding chosen choice
     go_on = followed (λ v. given (truth v) >>= choice) m condition old v reads e
 
-    pub not_true_or_false : (stop : Stop) → Is (truth v) (Err stop) → Gives (run (chosen condition first second) m old) (Err stop) reads
+    pub not_true_or_false : (stop : Halt) → AsDefined fault_in (truth v) (Err stop) → Gives (run (chosen condition first second) m old) (Err stop) reads
     not_true_or_false stop h = gives_equal (Err stop) reads _ _ go_on (given_stops m reads (truth v) stop choice h)
 
     pub chose : (b : Bool) → truth v ≡ Ok b → run (chosen condition first second) m old ≡ run (if b then first else second) m reads
@@ -90,16 +83,16 @@ module _ (condition first second : Reading Value) (m : (c : Cell) → Content c)
 -- ---- tests of members
 
 module _ (f : Scalar → Reading Value) (m : (c : Cell) → Content c) (old : List Cell) (x : Scalar) where
-  pub test_stopped : (stop : Stop) (reads : List Cell) → Gives (run (f x) m old) (Err stop) reads → Gives (run (tested f x) m old) (Err stop) reads
+  pub test_stopped : (stop : Halt) (reads : List Cell) → Gives (run (f x) m old) (Err stop) reads → Gives (run (tested f x) m old) (Err stop) reads
   unfolding tested
   test_stopped stop reads h = stopped (λ v. given (truth v)) m (f x) old stop reads h
 
-  pub test_gives : (v : Value) (reads : List Cell) (result : Result Bool Stop) → run (f x) m old ≡ record { gave = Ok v; reads = reads } → Is (truth v) result → Gives (run (tested f x) m old) result reads
+  pub test_gives : (v : Value) (reads : List Cell) (result : Result Bool Halt) → run (f x) m old ≡ record { gave = Ok v; reads = reads } → AsDefined fault_in (truth v) result → Gives (run (tested f x) m old) result reads
   unfolding tested
   test_gives v reads result e h = gives_next (λ v. given (truth v)) m (f x) old v reads result reads e (given_gives m reads (truth v) result h)
 
   module _ (wanted : Bool) where
-    pub sift_stopped : (xs : List Scalar) (stop : Stop) (reads : List Cell) → Gives (run (tested f x) m old) (Err stop) reads → Gives (run (sift f wanted xs x) m old) (Err stop) reads
+    pub sift_stopped : (xs : List Scalar) (stop : Halt) (reads : List Cell) → Gives (run (tested f x) m old) (Err stop) reads → Gives (run (sift f wanted xs x) m old) (Err stop) reads
     unfolding sift
     sift_stopped xs stop reads h = stopped (λ passes. done (kept wanted xs x passes)) m (tested f x) old stop reads h
 
@@ -107,7 +100,7 @@ module _ (f : Scalar → Reading Value) (m : (c : Cell) → Content c) (old : Li
     unfolding sift run
     sift_gives xs b reads e = followed (λ passes. done (kept wanted xs x passes)) m (tested f x) old b reads e
 
-    pub first_stopped : (xs : List Scalar) (stop : Stop) (reads : List Cell) → Gives (run (tested f x) m old) (Err stop) reads → Gives (run (first_that f wanted (x ∷ xs)) m old) (Err stop) reads
+    pub first_stopped : (xs : List Scalar) (stop : Halt) (reads : List Cell) → Gives (run (tested f x) m old) (Err stop) reads → Gives (run (first_that f wanted (x ∷ xs)) m old) (Err stop) reads
     unfolding first_that
     first_stopped xs stop reads h = stopped (λ passes. if beq passes wanted then done (Some x) else first_that f wanted xs) m (tested f x) old stop reads h
 

@@ -6,9 +6,9 @@ use Rattle.wb_aql_check.specs.declared.services.Iteration.{Iteration}
 use Rattle.wb_aql_check.specs.declared.services.Iteration.TheVariants as i
 use Rattle.wb_aql_values.specs.declared.values.Value.{Value}
 use Rattle.wb_aql_values.specs.declared.values.Value.TheVariants.{Null, One}
-use Rattle.wb_aql_values.specs.Values.{members, sort_of, collection}
+use Rattle.wb_aql_values.specs.Values.{members, sort_of, collection, flag}
 use Rattle.wb_aql_values.specs.Readings.{Reading, done, given, each, of_each, ◌>>=◌}
-use Rattle.wb_aql_eval.specs.Operators.{truth, flag}
+use Rattle.wb_aql_eval.specs.Operators.{truth}
 
 -- is the expression true of a member?
 unfoldable pub tested : (Scalar → Reading Value) → Scalar → Reading Bool

@@ -1,4 +1,4 @@
-pub mod Answers
+pub mod Context
 pub mod Features
 pub mod Iterations
 pub mod Meaning

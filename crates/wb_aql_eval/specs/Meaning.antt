@@ -27,9 +27,9 @@ use Rattle.wb_aql_values.specs.declared.values.Sort.{Sort}
 use Rattle.wb_aql_values.specs.declared.values.Sort.TheVariants as sort
 use Rattle.wb_aql_values.specs.declared.values.Value.{Value}
 use Rattle.wb_aql_values.specs.declared.values.Value.TheVariants.{Null, One}
-use Rattle.wb_aql_values.specs.Values.{put, collection}
+use Rattle.wb_aql_values.specs.Values.{put, collection, flag}
 use Rattle.wb_aql_values.specs.Readings.{Reading, done, given, ◌>>=◌}
-use Rattle.wb_aql_eval.specs.Operators.{truth, flag, number, unary, decided, combined}
+use Rattle.wb_aql_eval.specs.Operators.{truth, number, unary, decided, combined}
 use Rattle.wb_aql_eval.specs.Features.{feature_of}
 use Rattle.wb_aql_eval.specs.Iterations.{iterated}
 use Rattle.wb_aql_eval.specs.Scopes.{Values, bound}
@@ -67,9 +67,12 @@ abbrev pub unless_decided : Option Value → Reading Value → Reading Value
 unless_decided (Some v) more = done v
 unless_decided None more = more
 
--- the left side, then the right one where the left one does not decide
+-- behind the left side, whose value is known, the right one where the left one does not decide
+unfoldable pub continued : Metamodel → Binary → Reading Value → Value → Reading Value
+continued mm o right v = given (decided o v) >>= λ early. unless_decided early (right >>= λ w. given (combined mm o v w))
+
 unfoldable pub operated : Metamodel → Binary → Reading Value → Reading Value → Reading Value
-operated mm o left right = left >>= λ v. given (decided o v) >>= λ early. unless_decided early (right >>= λ w. given (combined mm o v w))
+operated mm o left right = left >>= continued mm o right
 
 unfoldable pub chosen : Reading Value → Reading Value → Reading Value → Reading Value
 chosen condition first second = condition >>= λ v. given (truth v) >>= λ b. if b then first else second
@@ -79,11 +82,13 @@ chosen condition first second = condition >>= λ v. given (truth v) >>= λ b. if
 -- the service without a lambda, and the one with a lambda, that is called so by a name
 abbrev pub service_in : Option (Callee × Parameters) → Option Service
 service_in (Some (callee.Service service, _)) = Some service
-service_in _ = None
+service_in (Some (callee.Iteration iteration, _)) = None
+service_in None = None
 
 abbrev pub iteration_in : Option (Callee × Parameters) → Option Iteration
 iteration_in (Some (callee.Iteration iteration, _)) = Some iteration
-iteration_in _ = None
+iteration_in (Some (callee.Service service, _)) = None
+iteration_in None = None
 
 abbrev pub service_called : CallKind → List ℕ → Option Service
 service_called kind name = service_in (service_named kind name)

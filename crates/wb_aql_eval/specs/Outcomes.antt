@@ -1,5 +1,7 @@
 -- What is evaluated as a whole gives over a model, and the cells that it reads.
-use Rattle.std.specs.Prelude.{◌≡◌, ℕ, List, [], map, All}
+use Rattle.std.specs.Prelude.{◌≡◌, ℕ, List, [], length, map, All}
+use Rattle.std.specs.List.{list_any, IsDistinct}
+use Rattle.wb_base.specs.Names.{same_name}
 use Rattle.wb_metamodel.specs.Metamodel.{Metamodel}
 use Rattle.wb_store.specs.declared.scalars.Scalar.TheVariants.{Object}
 use Rattle.wb_store.specs.declared.scalars.Cell.TheVariants.{Extent}
@@ -35,7 +37,9 @@ outcome_of checked env m = run (sense m.metamodel checked.0 env) (contents m) []
 abbrev pub ran : Outcome → Ran Value
 ran outcome = record { gave = answered outcome.answer; reads = outcome.reads }
 
--- the environment binds exactly the names of a scope, each with one value, within its bounds
+-- the environment binds exactly the names of a scope, each once, in any order, and with one value that is within its bounds
 pub record Binds (mm : Metamodel) (scope : List (List ℕ)) (env : Env) : Type 0 where
-  pub names : env.names ≡ scope
+  pub names : (name : List ℕ) → list_any (same_name name) env.names ≡ list_any (same_name name) scope
+  pub once : IsDistinct same_name env.names
+  pub paired : length env.values ≡ length env.names
   pub bounded : All (IsBounded mm) env.values

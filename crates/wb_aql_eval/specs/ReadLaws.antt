@@ -1,20 +1,21 @@
 -- What is read in a run: no cell twice, and enough to tell what the run gives.
 use Rattle.std.proofs.Common.{◌≡◌, ℕ, Bool, true, false, ◌||◌, nat_eq, List, [], ◌∷◌, ◌++◌, Some, refl, sym, ap, subst, ◌∙◌, if◌then◌else◌}
-use Rattle.std.proofs.lemmas.Bool.{false≢true, eqb-true, and_parts, and_from, or_parts, or_from, not-true, not_from_false}
+use Rattle.std.proofs.lemmas.Bool.{false≢true, eqb-true, and_parts, or_parts}
 use Rattle.std.proofs.lemmas.List.Elements.{All-head, All-tail, All-pop}
-use Rattle.std.proofs.lemmas.List.Folds.{list_any-append}
 use Rattle.std.specs.Prelude.{All}
-use Rattle.std.specs.List.{list_any}
+use Rattle.std.specs.List.{list_any, AllByRecursion, IsDistinct}
 use Rattle.wb_store.specs.declared.scalars.Cell.{Cell}
 use Rattle.wb_store.specs.declared.scalars.Cell.TheVariants.{Kind, Slot, Holder, Tree, Inverse, Extent, Roots}
 use Rattle.wb_store.specs.Contents.{Contents}
 use Rattle.wb_aql_check.specs.declared.checked.Origin.{Origin}
 use Rattle.wb_aql_values.specs.Cells.{same_cell}
 use Rattle.wb_aql_values.specs.Readings.{Content, Reading, done, fail, look, contents}
-use Rattle.wb_aql_values.specs.Runs.{run, with_read}
+use Rattle.wb_aql_values.specs.Runs.{Ran, run, with_read}
 use Rattle.wb_aql_eval.specs.declared.env.Env.{Env}
-use Rattle.wb_aql_eval.specs.Outcomes.{sense, outcome_of}
-use Rattle.wb_aql_eval.specs.ReadCells.{once, Alike}
+use Rattle.wb_aql_values.specs.declared.values.Value.{Value}
+use Rattle.wb_aql_eval.specs.declared.env.Outcome.{Outcome}
+use Rattle.wb_aql_eval.specs.Outcomes.{sense, outcome_of, ran}
+use Rattle.wb_aql_eval.specs.ReadCells.{Alike}
 
 -- ---- cells
 
@@ -33,31 +34,36 @@ turned : (b : Bool) (c d : Cell) → same_cell d c ≡ b → same_cell c d ≡ f
 turned false c d e h = refl
 turned true c d e h = let same = cell_is d c e in sym e ∙ ap (λ x. same_cell d x) (sym same) ∙ ap (λ x. same_cell x d) same ∙ h
 
--- ---- once
+-- ---- no cell twice
 
-once_more : (cells : List Cell) (c : Cell) → once cells ≡ true → list_any (same_cell c) cells ≡ false → once (cells ++ c ∷ []) ≡ true
-once_more [] c h none = refl
-once_more (d ∷ cells) c h none =
-    let p = and_parts _ _ h in
+all_more : (P : Cell → Type 0) (cells : List Cell) (c : Cell) → AllByRecursion P cells → P c → AllByRecursion P (cells ++ c ∷ [])
+all_more P [] c h p = (p, tt)
+all_more P (d ∷ cells) c h p = (h.0, all_more P cells c h.1 p)
+
+distinct_more : (cells : List Cell) (c : Cell) → IsDistinct same_cell cells → list_any (same_cell c) cells ≡ false → IsDistinct same_cell (cells ++ c ∷ [])
+distinct_more [] c h none = (tt, tt)
+distinct_more (d ∷ cells) c h none =
     let q = or_parts _ _ none in
-    and_from _ _
-    (not_from_false _ (list_any-append (same_cell d) cells (c ∷ []) ∙ or_from _ _ (not-true _ p.0) (or_from _ _ (turned (same_cell d c) c d refl q.0) refl)))
-    (once_more cells c p.1 q.1)
+    (all_more (λ e. same_cell d e ≡ false) cells c h.0 (turned (same_cell d c) c d refl q.0), distinct_more cells c h.1 q.1)
 
-once_with_read : (b : Bool) (cells : List Cell) (c : Cell) → list_any (same_cell c) cells ≡ b → once cells ≡ true → once (if b then cells else cells ++ c ∷ []) ≡ true
-once_with_read true cells c e h = h
-once_with_read false cells c e h = once_more cells c h e
+distinct_with_read : (b : Bool) (cells : List Cell) (c : Cell) → list_any (same_cell c) cells ≡ b → IsDistinct same_cell cells → IsDistinct same_cell (if b then cells else cells ++ c ∷ [])
+distinct_with_read true cells c e h = h
+distinct_with_read false cells c e h = distinct_more cells c h e
 
 -- a run keeps a list that has no cell twice
-once_read : {A : Type 0} (r : Reading A) (m : (c : Cell) → Content c) (old : List Cell) → once old ≡ true → once (run r m old).reads ≡ true
+distinct_read : {A : Type 0} (r : Reading A) (m : (c : Cell) → Content c) (old : List Cell) → IsDistinct same_cell old → IsDistinct same_cell (run r m old).reads
 unfolding run
-once_read (done x) m old h = h
-once_read (fail fault) m old h = h
-once_read (look c onward) m old h = once_read (onward (m c)) m (with_read old c) (once_with_read (list_any (same_cell c) old) old c refl h)
+distinct_read (done x) m old h = h
+distinct_read (fail fault) m old h = h
+distinct_read (look c onward) m old h = distinct_read (onward (m c)) m (with_read old c) (distinct_with_read (list_any (same_cell c) old) old c refl h)
 
-pub outcomes_read_once : (checked : Origin × List (List ℕ)) (env : Env) (m : Contents) → once (outcome_of checked env m).reads ≡ true
+pub outcomes_read_once : (checked : Origin × List (List ℕ)) (env : Env) (m : Contents) → IsDistinct same_cell (outcome_of checked env m).reads
 unfolding outcome_of
-outcomes_read_once checked env m = once_read (sense m.metamodel checked.0 env) (contents m) [] refl
+outcomes_read_once checked env m = distinct_read (sense m.metamodel checked.0 env) (contents m) [] tt
+
+-- the reads of an outcome that was found
+pub found_reads_once : (checked : Origin × List (List ℕ)) (env : Env) (m : Contents) (outcome : Outcome) → outcome_of checked env m ≡ ran outcome → IsDistinct same_cell outcome.reads
+found_reads_once checked env m outcome e = subst (λ (r : Ran Value). IsDistinct same_cell r.reads) e (outcomes_read_once checked env m)
 
 -- ---- what is true of all reads
 

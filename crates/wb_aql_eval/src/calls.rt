@@ -12,7 +12,7 @@ use std::slice::from_ref;
 use wb_aql_check::{Callee, Iteration, Service, service_named};
 use wb_aql_services::{Argument, run_service};
 use wb_aql_syntax::CallKind;
-use wb_aql_values::{Reads, Stop, Value};
+use wb_aql_values::{Halt, Reads, Value};
 use wb_base::Text;
 use wb_metamodel::{ClassId, Metamodel};
 use wb_model::Model;
@@ -23,7 +23,8 @@ pub fn service_called(kind: CallKind, name: &[u8]) -> Option<Service>
 {
     match service_named(kind, name) {
         Some((Callee::Service(service), _)) => Some(service),
-        _ => None,
+        Some((Callee::Iteration(_), _)) => None,
+        None => None,
     }
 }
 
@@ -33,7 +34,8 @@ pub fn iteration_called(kind: CallKind, name: &[u8]) -> Option<Iteration>
 {
     match service_named(kind, name) {
         Some((Callee::Iteration(iteration), _)) => Some(iteration),
-        _ => None,
+        Some((Callee::Service(_), _)) => None,
+        None => None,
     }
 }
 
@@ -44,7 +46,7 @@ pub fn call(
     service: Option<Service>,
     receiver: &Value,
     reads: &mut Reads,
-) -> Result<Value, Stop>
+) -> Result<Value, Halt>
     requires { IsBounded model.now.metamodel receiver.now }
     ensures value { Gives (run (serviced model.now.metamodel service receiver.now []) (contents model.now) reads.old) result reads.new }
     ensures bounded { IfOk result (IsBounded model.now.metamodel) }
@@ -63,7 +65,7 @@ pub fn call_with_class(
     receiver: &Value,
     class: &Text,
     reads: &mut Reads,
-) -> Result<Value, Stop>
+) -> Result<Value, Halt>
     requires { IsBounded model.now.metamodel receiver.now }
     ensures value { Gives (run (serviced_class model.now.metamodel service receiver.now (class_named model.now.metamodel class.now)) (contents model.now) reads.old) result reads.new }
     ensures bounded { IfOk result (IsBounded model.now.metamodel) }
@@ -92,7 +94,7 @@ pub fn call_with_value(
     receiver: &Value,
     value: Value,
     reads: &mut Reads,
-) -> Result<Value, Stop>
+) -> Result<Value, Halt>
     requires receiver { IsBounded model.now.metamodel receiver.now }
     requires value { IsBounded model.now.metamodel value }
     ensures value { Gives (run (serviced model.now.metamodel service receiver.now (a.Of value ∷ [])) (contents model.now) reads.old) result reads.new }
@@ -109,7 +111,7 @@ fn call_with(
     receiver: &Value,
     argument: &Argument,
     reads: &mut Reads,
-) -> Result<Value, Stop>
+) -> Result<Value, Halt>
     requires receiver { IsBounded model.now.metamodel receiver.now }
     requires argument { IsArgument model.now.metamodel argument.now }
     ensures value { Gives (run (serviced model.now.metamodel service receiver.now (argument.now ∷ [])) (contents model.now) reads.old) result reads.new }

@@ -1,17 +1,19 @@
+ghost use Rattle.std.specs.List.{IsDistinct};
 ghost use Rattle.std.specs.Prelude.{◌≡◌, ◌+◌, ◌<◌, IfOk, length, map};
 ghost use Rattle.wb_aql_check.specs.Checked.{IsChecked};
 ghost use Rattle.wb_store.specs.declared.scalars.Scalar.TheVariants.{Object};
 ghost use Rattle.wb_aql_values.specs.Bounds.{IsBounded};
+ghost use Rattle.wb_aql_values.specs.Cells.{same_cell};
 ghost use Rattle.wb_aql_values.specs.Readings.{contents};
 ghost use Rattle.wb_aql_values.specs.Runs.{Gives, answered, run};
 ghost use Rattle.wb_aql_eval.specs.Outcomes.{Binds, objects_of, outcome_of, ran, sense};
 
 use crate::env::{Env, Outcome};
 use crate::nodes::eval_node;
-use crate::scope::Scope;
+use crate::scope::{Context, Scope};
 use std::alloc::{AllocError, Global};
 use wb_aql_check::{Checked, Origin};
-use wb_aql_values::{Answer, Gathered, Reads, Sort, Stop, Value};
+use wb_aql_values::{Answer, Gathered, Halt, Reads, Sort, Value};
 use wb_base::List;
 use wb_metamodel::{ClassId, ObjectId};
 use wb_model::{Cell, Model, Scalar};
@@ -29,6 +31,7 @@ pub fn eval<L>(
     requires checked { IsChecked model.now.metamodel e.now }
     ensures outcome { IfOk result (λ outcome. outcome_of e.now env.now model.now ≡ ran outcome) }
     ensures bounded { IfOk result (λ outcome. IfOk (answered outcome.answer) (IsBounded model.now.metamodel)) }
+    ensures distinct { IfOk result (λ outcome. IsDistinct same_cell outcome.reads) }
     ensures counted { steps.new ≡ steps.old + 1 }
 {
     steps.tick();
@@ -38,11 +41,11 @@ pub fn eval<L>(
             answer: Answer::Value(value),
             reads,
         }),
-        Err(Stop::Fault(fault)) => Ok(Outcome {
+        Err(Halt::Fault(fault)) => Ok(Outcome {
             answer: Answer::Fault(fault),
             reads,
         }),
-        Err(Stop::NoMemory) => Err(AllocError),
+        Err(Halt::NoMemory) => Err(AllocError),
     }
 }
 
@@ -52,14 +55,21 @@ fn eval_checked(
     env: &Env,
     model: &Model,
     reads: &mut Reads,
-) -> Result<Value, Stop>
+) -> Result<Value, Halt>
     requires bound { Binds model.now.metamodel e.now.1 env.now }
     requires checked { IsChecked model.now.metamodel e.now }
     ensures value { Gives (run (sense model.now.metamodel e.now.0 env.now) (contents model.now) reads.old) result reads.new }
     ensures bounded { IfOk result (IsBounded model.now.metamodel) }
 {
     match e.origin() {
-        Origin::Expr(expr) => eval_node(alloc, model, &Scope::Outer(env), expr.node(), reads),
+        Origin::Expr(expr) => {
+            let context = Context {
+                alloc,
+                model,
+                scope: Scope::Outer(env),
+            };
+            eval_node(&context, expr.node(), reads)
+        }
         Origin::Extent(class) => eval_objects(alloc, *class, model, reads),
     }
 }
@@ -70,7 +80,7 @@ fn eval_objects(
     class: ClassId,
     model: &Model,
     reads: &mut Reads,
-) -> Result<Value, Stop>
+) -> Result<Value, Halt>
     requires { class < length model.now.metamodel.classes }
     ensures value { Gives (run (objects_of class) (contents model.now) reads.old) result reads.new }
     ensures bounded { IfOk result (IsBounded model.now.metamodel) }

@@ -1,6 +1,8 @@
+ghost use Rattle.std.specs.List.{IsDistinct};
 ghost use Rattle.std.specs.Prelude.{◌≡◌, ◌+◌, IfOk};
 ghost use Rattle.wb_aql_check.specs.Checked.{IsChecked};
 ghost use Rattle.wb_aql_values.specs.Bounds.{IsBounded};
+ghost use Rattle.wb_aql_values.specs.Cells.{same_cell};
 ghost use Rattle.wb_aql_values.specs.Runs.{answered};
 ghost use Rattle.wb_aql_eval.specs.Outcomes.{Binds, outcome_of, ran};
 ghost use Rattle.wb_aql_eval.specs.ReadLaws.{alike_outcomes};
@@ -38,6 +40,7 @@ pub trait Evaluator {
         requires checked { IsChecked model.now.metamodel e.now }
         ensures outcome { IfOk result (λ outcome. outcome_by e.now env.now model.now ≡ ran outcome) }
         ensures bounded { IfOk result (λ outcome. IfOk (answered outcome.answer) (IsBounded model.now.metamodel)) }
+        ensures distinct { IfOk result (λ outcome. IsDistinct same_cell outcome.reads) }
         ensures counted { count self.new ≡ count self.old + 1 };
 
     ghost decides: { (checked : Origin × List (List ℕ)) (env : Env) (a b : Contents) → Alike a b (outcome_by checked env a).reads → outcome_by checked env b ≡ outcome_by checked env a };

@@ -6,7 +6,7 @@ ghost use Rattle.wb_aql_values.specs.Runs.{Gives, run};
 ghost use Rattle.wb_aql_eval.specs.Features.{feature_of, feature_of_object, navigated, shown};
 
 use std::alloc::{AllocError, Global};
-use wb_aql_values::{Fault, OnScalars, Reads, Stop, Value, lift, look_at_class};
+use wb_aql_values::{Fault, Halt, OnScalars, Reads, Value, lift, look_at_class};
 use wb_base::{Duplicate, List, Text};
 use wb_metamodel::ObjectId;
 use wb_model::{Cell, Model, Scalar};
@@ -30,17 +30,17 @@ impl OnScalars for FeatureNamed<'_> {
         x: &Scalar,
         model: &Model,
         reads: &mut Reads,
-    ) -> Result<Value, Stop> {
+    ) -> Result<Value, Halt> {
         match x {
             Scalar::Object(o) => feature_of_object(alloc, self.name, *o, model, reads),
-            Scalar::Int(_) => Err(Stop::Fault(Fault::NotAnObject)),
-            Scalar::Bool(_) => Err(Stop::Fault(Fault::NotAnObject)),
-            Scalar::Text(_) => Err(Stop::Fault(Fault::NotAnObject)),
-            Scalar::Literal(_, _) => Err(Stop::Fault(Fault::NotAnObject)),
+            Scalar::Int(_) => Err(Halt::Fault(Fault::NotAnObject)),
+            Scalar::Bool(_) => Err(Halt::Fault(Fault::NotAnObject)),
+            Scalar::Text(_) => Err(Halt::Fault(Fault::NotAnObject)),
+            Scalar::Literal(_, _) => Err(Halt::Fault(Fault::NotAnObject)),
         }
     }
 
-    fn of_null(&self, _alloc: Global, _model: &Model, _reads: &mut Reads) -> Result<Value, Stop> {
+    fn of_null(&self, _alloc: Global, _model: &Model, _reads: &mut Reads) -> Result<Value, Halt> {
         Ok(Value::Null)
     }
 }
@@ -52,7 +52,7 @@ pub fn feature_of(
     name: &Text,
     model: &Model,
     reads: &mut Reads,
-) -> Result<Value, Stop>
+) -> Result<Value, Halt>
     requires { IsBounded model.now.metamodel receiver.now }
     ensures value { Gives (run (feature_of model.now.metamodel name.now receiver.now) (contents model.now) reads.old) result reads.new }
     ensures bounded { IfOk result (IsBounded model.now.metamodel) }
@@ -68,7 +68,7 @@ fn feature_of_object(
     o: ObjectId,
     model: &Model,
     reads: &mut Reads,
-) -> Result<Value, Stop>
+) -> Result<Value, Halt>
     ensures { Gives (run (feature_of_object model.now.metamodel name.now o) (contents model.now) reads.old) result reads.new }
 {
     let class = look_at_class(model, o, reads)?;
@@ -78,7 +78,7 @@ fn feature_of_object(
             reads.note(Cell::Slot(o, feature))?;
             Ok(shown(alloc, many, model.get(o, feature))?)
         }
-        None => Err(Stop::Fault(Fault::NoFeature)),
+        None => Err(Halt::Fault(Fault::NoFeature)),
     }
 }
 

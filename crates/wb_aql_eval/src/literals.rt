@@ -1,14 +1,14 @@
 ghost use Rattle.std.specs.Prelude.{◌≡◌, pos, IfOk};
 ghost use Rattle.wb_metamodel.specs.Metamodel.{Metamodel};
 ghost use Rattle.wb_aql_values.specs.Bounds.{IsBounded};
-ghost use Rattle.wb_aql_eval.specs.Answers.{Is};
+ghost use Rattle.wb_aql_values.specs.Runs.{fault_in};
+ghost use Rattle.wb_base.specs.Answering.{AsDefined};
 ghost use Rattle.wb_aql_eval.specs.Meaning.{constant, literal, sort_named, written};
 ghost use Rattle.wb_aql_eval.specs.Operators.{number};
 
-use crate::operators::flag;
 use std::alloc::Global;
 use wb_aql_syntax::{CollectionKind, Constant};
-use wb_aql_values::{Fault, Sort, Stop, Value};
+use wb_aql_values::{Fault, Halt, Sort, Value, flag};
 use wb_base::{Duplicate, Text};
 use wb_metamodel::Metamodel;
 use wb_model::Scalar;
@@ -16,23 +16,23 @@ use wb_model::Scalar;
 /// How many bytes a text has at most.
 const MAX_TEXT: usize = 65536;
 
-pub fn integer(value: u64) -> Result<Value, Stop>
-    ensures value { Is (number (pos value)) result }
+pub fn integer(value: u64) -> Result<Value, Halt>
+    ensures value { AsDefined fault_in (number (pos value)) result }
     ensures bounded { (mm : Metamodel) → IfOk result (IsBounded mm) }
 {
     if value <= 0x7fff_ffff_ffff_ffff {
         Ok(Value::One(Scalar::Int(value as i64)))
     } else {
-        Err(Stop::Fault(Fault::Overflow))
+        Err(Halt::Fault(Fault::Overflow))
     }
 }
 
-pub fn text(alloc: Global, value: &Text) -> Result<Value, Stop>
-    ensures value { Is (written value.now) result }
+pub fn text(alloc: Global, value: &Text) -> Result<Value, Halt>
+    ensures value { AsDefined fault_in (written value.now) result }
     ensures bounded { (mm : Metamodel) → IfOk result (IsBounded mm) }
 {
     if value.as_slice().len() > MAX_TEXT {
-        return Err(Stop::Fault(Fault::TextTooLong));
+        return Err(Halt::Fault(Fault::TextTooLong));
     }
     let copy = value.copy(alloc)?;
     Ok(Value::One(Scalar::Text(copy)))

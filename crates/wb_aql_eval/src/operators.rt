@@ -1,33 +1,62 @@
 ghost use Rattle.std.specs.Prelude.{◌≡◌, IfOk};
 ghost use Rattle.wb_metamodel.specs.Metamodel.{Metamodel};
 ghost use Rattle.wb_aql_values.specs.Bounds.{IsBounded};
-ghost use Rattle.wb_aql_eval.specs.Answers.{Is};
-ghost use Rattle.wb_aql_eval.specs.Operators.{added, calculated, combined, compared, connected, decided, flag, integer, is_text, joined, ordered, stopping, truth, unary};
+ghost use Rattle.wb_aql_values.specs.Values.{flag};
+ghost use Rattle.wb_aql_values.specs.Runs.{fault_in};
+ghost use Rattle.wb_base.specs.Answering.{AsDefined};
+ghost use Rattle.wb_aql_eval.specs.Operators.{added, calculated, combined, compared, connected, decided, integer, is_text, joined, ordered, stopping, truth, unary};
 
 use crate::arithmetic::{arithmetic, negated};
 use std::alloc::Global;
 use wb_aql_syntax::{Binary, Unary};
-use wb_aql_values::{Fault, Stop, Value, are_same, join_forms};
+use wb_aql_values::{Fault, Halt, Value, are_same, flag, join_forms};
 use wb_metamodel::Metamodel;
 use wb_model::Scalar;
 
+/// The operators of two Bools.
+#[derive(Clone, Copy)]
+pub enum Connective {
+    And,
+    Or,
+    Implies,
+    Xor,
+}
+
+/// The operators that compare two Ints.
+#[derive(Clone, Copy)]
+pub enum Comparison {
+    Less,
+    LessEqual,
+    Greater,
+    GreaterEqual,
+}
+
+/// The operators that calculate with two Ints.
+#[derive(Clone, Copy)]
+pub enum Calculation {
+    Add,
+    Subtract,
+    Multiply,
+    Divide,
+}
+
 /// The Bool that a value is.
-pub fn truth(value: &Value) -> Result<bool, Stop>
-    ensures { Is (truth value.now) result }
+pub fn truth(value: &Value) -> Result<bool, Halt>
+    ensures { AsDefined fault_in (truth value.now) result }
 {
     match value {
         Value::One(Scalar::Bool(b)) => Ok(*b),
-        _ => Err(Stop::Fault(Fault::NotBool)),
+        _ => Err(Halt::Fault(Fault::NotBool)),
     }
 }
 
 /// The Int that a value is.
-fn integer(value: &Value) -> Result<i64, Stop>
-    ensures { Is (integer value.now) result }
+fn integer(value: &Value) -> Result<i64, Halt>
+    ensures { AsDefined fault_in (integer value.now) result }
 {
     match value {
         Value::One(Scalar::Int(n)) => Ok(*n),
-        _ => Err(Stop::Fault(Fault::NotInt)),
+        _ => Err(Halt::Fault(Fault::NotInt)),
     }
 }
 
@@ -37,22 +66,16 @@ fn is_text(value: &Value) -> bool
     matches!(value, Value::One(Scalar::Text(_)))
 }
 
-pub fn flag(b: bool) -> Value
-    ensures { result ≡ flag b }
-{
-    Value::One(Scalar::Bool(b))
-}
-
 /// An operator of one side.
-pub fn unary(operator: Unary, value: &Value) -> Result<Value, Stop>
-    ensures value { Is (unary operator value.now) result }
+pub fn unary(operator: Unary, value: &Value) -> Result<Value, Halt>
+    ensures value { AsDefined fault_in (unary operator value.now) result }
     ensures bounded { (mm : Metamodel) → IfOk result (IsBounded mm) }
 {
     applied(operator, value)
 }
 
-fn applied(operator: Unary, value: &Value) -> Result<Value, Stop>
-    ensures { Is (unary operator value.now) result }
+fn applied(operator: Unary, value: &Value) -> Result<Value, Halt>
+    ensures { AsDefined fault_in (unary operator value.now) result }
 {
     match operator {
         Unary::Not => {
@@ -67,8 +90,8 @@ fn applied(operator: Unary, value: &Value) -> Result<Value, Stop>
 }
 
 /// What the left side gives by itself, none where the right side is wanted.
-pub fn decided(operator: Binary, left: &Value) -> Result<Option<Value>, Stop>
-    ensures { Is (decided operator left.now) result }
+pub fn decided(operator: Binary, left: &Value) -> Result<Option<Value>, Halt>
+    ensures { AsDefined fault_in (decided operator left.now) result }
 {
     match operator {
         Binary::And => stopping(false, false, left),
@@ -78,13 +101,15 @@ pub fn decided(operator: Binary, left: &Value) -> Result<Option<Value>, Stop>
             let _b = truth(left)?;
             Ok(None)
         }
-        _ => Ok(None),
+        Binary::Equal | Binary::NotEqual => Ok(None),
+        Binary::Less | Binary::LessEqual | Binary::Greater | Binary::GreaterEqual => Ok(None),
+        Binary::Add | Binary::Subtract | Binary::Multiply | Binary::Divide => Ok(None),
     }
 }
 
 /// An operator that stops at this left side, and then gives this.
-fn stopping(at: bool, gives: bool, left: &Value) -> Result<Option<Value>, Stop>
-    ensures { Is (stopping at gives left.now) result }
+fn stopping(at: bool, gives: bool, left: &Value) -> Result<Option<Value>, Halt>
+    ensures { AsDefined fault_in (stopping at gives left.now) result }
 {
     let b = truth(left)?;
     if b == at {
@@ -100,10 +125,10 @@ pub fn combined(
     operator: Binary,
     left: &Value,
     right: &Value,
-) -> Result<Value, Stop>
+) -> Result<Value, Halt>
     requires left { IsBounded metamodel.now left.now }
     requires right { IsBounded metamodel.now right.now }
-    ensures value { Is (combined metamodel.now operator left.now right.now) result }
+    ensures value { AsDefined fault_in (combined metamodel.now operator left.now right.now) result }
     ensures bounded { IfOk result (IsBounded metamodel.now) }
 {
     operated(alloc, metamodel, operator, left, right)
@@ -115,81 +140,85 @@ fn operated(
     operator: Binary,
     left: &Value,
     right: &Value,
-) -> Result<Value, Stop>
+) -> Result<Value, Halt>
     requires left { IsBounded metamodel.now left.now }
     requires right { IsBounded metamodel.now right.now }
-    ensures { Is (combined metamodel.now operator left.now right.now) result }
+    ensures { AsDefined fault_in (combined metamodel.now operator left.now right.now) result }
 {
     match operator {
-        Binary::And | Binary::Or | Binary::Implies | Binary::Xor => {
-            connected(operator, left, right)
-        }
+        Binary::And => connected(Connective::And, left, right),
+        Binary::Or => connected(Connective::Or, left, right),
+        Binary::Implies => connected(Connective::Implies, left, right),
+        Binary::Xor => connected(Connective::Xor, left, right),
         Binary::Equal => Ok(flag(are_same(left, right))),
         Binary::NotEqual => Ok(flag(!are_same(left, right))),
-        Binary::Less | Binary::LessEqual | Binary::Greater | Binary::GreaterEqual => {
-            compared(operator, left, right)
-        }
+        Binary::Less => compared(Comparison::Less, left, right),
+        Binary::LessEqual => compared(Comparison::LessEqual, left, right),
+        Binary::Greater => compared(Comparison::Greater, left, right),
+        Binary::GreaterEqual => compared(Comparison::GreaterEqual, left, right),
         Binary::Add => added(alloc, metamodel, left, right),
-        Binary::Subtract | Binary::Multiply | Binary::Divide => calculated(operator, left, right),
+        Binary::Subtract => calculated(Calculation::Subtract, left, right),
+        Binary::Multiply => calculated(Calculation::Multiply, left, right),
+        Binary::Divide => calculated(Calculation::Divide, left, right),
     }
 }
 
 /// Two Ints are added; where either side is a Text the text forms are joined.
-fn added(alloc: Global, metamodel: &Metamodel, left: &Value, right: &Value) -> Result<Value, Stop>
+fn added(alloc: Global, metamodel: &Metamodel, left: &Value, right: &Value) -> Result<Value, Halt>
     requires left { IsBounded metamodel.now left.now }
     requires right { IsBounded metamodel.now right.now }
-    ensures { Is (added metamodel.now left.now right.now) result }
+    ensures { AsDefined fault_in (added metamodel.now left.now right.now) result }
 {
     if is_text(left) || is_text(right) {
         match join_forms(alloc, left, right, metamodel)? {
             Some(text) => Ok(Value::One(Scalar::Text(text))),
-            None => Err(Stop::Fault(Fault::TextTooLong)),
+            None => Err(Halt::Fault(Fault::TextTooLong)),
         }
     } else {
-        calculated(Binary::Add, left, right)
+        calculated(Calculation::Add, left, right)
     }
 }
 
-fn connected(operator: Binary, left: &Value, right: &Value) -> Result<Value, Stop>
-    ensures { Is (connected operator left.now right.now) result }
+fn connected(operator: Connective, left: &Value, right: &Value) -> Result<Value, Halt>
+    ensures { AsDefined fault_in (connected operator left.now right.now) result }
 {
     let a = truth(left)?;
     let b = truth(right)?;
     Ok(flag(joined(operator, a, b)))
 }
 
-fn joined(operator: Binary, a: bool, b: bool) -> bool
+fn joined(operator: Connective, a: bool, b: bool) -> bool
     ensures { result ≡ joined operator a b }
 {
     match operator {
-        Binary::And => a && b,
-        Binary::Or => a || b,
-        Binary::Implies => !a || b,
-        _ => a != b,
+        Connective::And => a && b,
+        Connective::Or => a || b,
+        Connective::Implies => !a || b,
+        Connective::Xor => a != b,
     }
 }
 
-fn compared(operator: Binary, left: &Value, right: &Value) -> Result<Value, Stop>
-    ensures { Is (compared operator left.now right.now) result }
+fn compared(operator: Comparison, left: &Value, right: &Value) -> Result<Value, Halt>
+    ensures { AsDefined fault_in (compared operator left.now right.now) result }
 {
     let a = integer(left)?;
     let b = integer(right)?;
     Ok(flag(ordered(operator, a, b)))
 }
 
-fn ordered(operator: Binary, a: i64, b: i64) -> bool
+fn ordered(operator: Comparison, a: i64, b: i64) -> bool
     ensures { result ≡ ordered operator a b }
 {
     match operator {
-        Binary::Less => a < b,
-        Binary::LessEqual => a <= b,
-        Binary::Greater => b < a,
-        _ => b <= a,
+        Comparison::Less => a < b,
+        Comparison::LessEqual => a <= b,
+        Comparison::Greater => b < a,
+        Comparison::GreaterEqual => b <= a,
     }
 }
 
-fn calculated(operator: Binary, left: &Value, right: &Value) -> Result<Value, Stop>
-    ensures { Is (calculated operator left.now right.now) result }
+fn calculated(operator: Calculation, left: &Value, right: &Value) -> Result<Value, Halt>
+    ensures { AsDefined fault_in (calculated operator left.now right.now) result }
 {
     let a = integer(left)?;
     let b = integer(right)?;

@@ -1,6 +1,6 @@
 ghost use Rattle.std.specs.Prelude.{◌≡◌, IfOk};
 ghost use Rattle.std.specs.List.{position};
-ghost use Rattle.wb_metamodel.specs.Metamodel.{same_name};
+ghost use Rattle.wb_base.specs.Names.{same_name};
 ghost use Rattle.wb_aql_values.specs.Bounds.{IsBounded};
 ghost use Rattle.wb_aql_eval.specs.Scopes.{values_of, values_in};
 
@@ -8,6 +8,7 @@ use crate::env::Env;
 use std::alloc::{AllocError, Global};
 use wb_aql_values::Value;
 use wb_base::{Duplicate, Text};
+use wb_model::Model;
 
 /// The variables where a part of an expression stands.
 #[derive(Clone, Copy)]
@@ -16,6 +17,14 @@ pub enum Scope<'a> {
     Outer(&'a Env),
     /// Those around, and one more that is nearer.
     Inner(&'a Scope<'a>, &'a Text, &'a Value),
+}
+
+/// Where a part of an expression is evaluated: over a model, with the variables around it.
+#[derive(Clone, Copy)]
+pub struct Context<'a> {
+    pub alloc: Global,
+    pub model: &'a Model,
+    pub scope: Scope<'a>,
 }
 
 /// The value of a variable.

@@ -13,7 +13,9 @@ use Rattle.wb_store.specs.declared.scalars.Scalar.TheVariants.{Int, Bool as Bool
 use Rattle.wb_aql_check.specs.declared.services.Service.{Service}
 use Rattle.wb_aql_check.specs.declared.services.Service.TheVariants as s
 use Rattle.wb_aql_services.specs.declared.arguments.Argument.{Argument}
-use Rattle.wb_aql_services.specs.Services.{meaning, on_receiver, on_scalar, on_null}
+use Rattle.wb_aql_services.specs.declared.by_dot.Navigation.{Navigation}
+use Rattle.wb_aql_services.specs.declared.by_dot.Navigation.TheVariants as w
+use Rattle.wb_aql_services.specs.Services.{meaning, navigated, on_receiver}
 use Rattle.wb_aql_services.specs.Asked.{type_in, value_in}
 use Rattle.wb_aql_services.specs.Navigation as n
 use Rattle.wb_aql_services.specs.Collections as c
@@ -26,7 +28,7 @@ use Rattle.wb_aql_values.specs.declared.values.Sort.TheVariants as sort
 use Rattle.wb_aql_values.specs.declared.values.Value.{Value}
 use Rattle.wb_aql_values.specs.declared.values.Value.TheVariants.{Null, One, Sequence, OrderedSet}
 use Rattle.wb_aql_values.specs.Bounds.{AreBounded, IsBounded, is_bounded}
-use Rattle.wb_aql_values.specs.Values.{collection, put, short, members, sort_of}
+use Rattle.wb_aql_values.specs.Values.{collection, flag, put, short, members, sort_of}
 use Rattle.wb_aql_values.specs.TextForms.{bounded_text, made, full_form, text_form, scalar_form}
 use Rattle.wb_aql_values.specs.Readings.{Content, Reading, done, fail, given, held, each, class_of, ◌>>=◌}
 use Rattle.wb_aql_values.proofs.Putting.{put_bounded, bounded_put, empty_bounded, bounded_members, le_of_test}
@@ -59,8 +61,8 @@ module _ (mm : Metamodel) where
   short_bounded : (xs ys : List Scalar) → list_all (is_bounded mm) xs ≡ true → short xs ≡ Ok ys → AreBounded mm ys
   short_bounded xs ys all e = one (nat_le (length xs) 65536) refl e
     where
-      one : (few : Bool) → nat_le (length xs) 65536 ≡ few → ◌≡◌ {A = Result (List Scalar) Fault} (if few then Ok xs else Err TooLong) (Ok ys) → AreBounded mm ys
-      one true f e = subst (λ zs. AreBounded mm zs) (let g : xs ≡ ys = cc in g) (record { few = le_of_test _ _ f; bounded = all })
+      one : (short_enough : Bool) → nat_le (length xs) 65536 ≡ short_enough → ◌≡◌ {A = Result (List Scalar) Fault} (if short_enough then Ok xs else Err TooLong) (Ok ys) → AreBounded mm ys
+      one true f e = subst (λ zs. AreBounded mm zs) (let g : xs ≡ ys = cc in g) (record { not_long = le_of_test _ _ f; bounded = all })
       one false f e = absurd (let g : ⊥ = cc in g)
 
   member_bounded : (xs : List Scalar) (k : ℕ) → list_all (is_bounded mm) xs ≡ true → IsBounded mm (c.member_or_null (slice_get xs k))
@@ -76,7 +78,7 @@ module _ (mm : Metamodel) where
   text_bounded : (bytes form : List ℕ) → made (bounded_text form) ≡ Ok bytes → is_bounded mm (Text bytes) ≡ true
   text_bounded bytes form e = one (nat_le (length form) 65536) refl e
     where
-      one : (few : Bool) → nat_le (length form) 65536 ≡ few → ◌≡◌ {A = Result (List ℕ) Fault} (made (if few then Some form else None)) (Ok bytes) → nat_le (length bytes) 65536 ≡ true
+      one : (short_enough : Bool) → nat_le (length form) 65536 ≡ short_enough → ◌≡◌ {A = Result (List ℕ) Fault} (made (if short_enough then Some form else None)) (Ok bytes) → nat_le (length bytes) 65536 ≡ true
       one true f e = subst (λ ys. nat_le (length ys) 65536 ≡ true) (let g : form ≡ bytes = cc in g) f
       one false f e = absurd (let g : ⊥ = cc in g)
 
@@ -167,18 +169,17 @@ module _ (mm : Metamodel) where
         sources [] = refl
         sources (p ∷ ps) = sources ps
 
-    from_object_of : (service : Service) (t : Option ℕ) (o k : ℕ) → B (n.from_object mm service t o k)
+    from_object_of : (way : Navigation) (t : Option ℕ) (o k : ℕ) → B (n.from_object mm way t o k)
     unfolding n.from_object n.e_container n.e_contents n.e_all_contents n.ancestors n.siblings n.preceding n.following
-    from_object_of s.EContainer None o k = container_of o
-    from_object_of s.EContainer (Some t) o k = nearest_of (Some t) n.height o
-    from_object_of s.EContents t o k = sequence_after t (n.content mm o k) (λ os. os)
-    from_object_of s.EAllContents t o k = sequence_after t (held (Tree o)) (λ os. os)
-    from_object_of s.EInverse t o k = inverse_of o
-    from_object_of s.Ancestors t o k = sequence_after t (n.climbed n.height [] o) (λ os. os)
-    from_object_of s.Siblings t o k = sequence_after None (n.beside mm o) (filter (λ p. not (nat_eq p o)))
-    from_object_of s.PrecedingSiblings t o k = sequence_after None (n.beside mm o) (before_first (λ p. nat_eq p o))
-    from_object_of s.FollowingSiblings t o k = sequence_after None (n.beside mm o) (after_first (λ p. nat_eq p o))
-    from_object_of _ t o k = tt
+    from_object_of w.EContainer None o k = container_of o
+    from_object_of w.EContainer (Some t) o k = nearest_of (Some t) n.height o
+    from_object_of w.EContents t o k = sequence_after t (n.content mm o k) (λ os. os)
+    from_object_of w.EAllContents t o k = sequence_after t (held (Tree o)) (λ os. os)
+    from_object_of w.EInverse t o k = inverse_of o
+    from_object_of w.Ancestors t o k = sequence_after t (n.climbed n.height [] o) (λ os. os)
+    from_object_of w.Siblings t o k = sequence_after None (n.beside mm o) (filter (λ p. not (nat_eq p o)))
+    from_object_of w.PrecedingSiblings t o k = sequence_after None (n.beside mm o) (before_first (λ p. nat_eq p o))
+    from_object_of w.FollowingSiblings t o k = sequence_after None (n.beside mm o) (after_first (λ p. nat_eq p o))
 
     -- ---- services of scalars
 
@@ -187,7 +188,7 @@ module _ (mm : Metamodel) where
 
     tested_of : (test : ℕ → Bool) (x : Scalar) → B (y.tested test x)
     unfolding y.tested
-    tested_of test (Object o) = class_test o (λ k. y.truth (test k)) (λ k. refl)
+    tested_of test (Object o) = class_test o (λ k. flag (test k)) (λ k. refl)
     tested_of test (Int i) = refl
     tested_of test (Boolean b) = refl
     tested_of test (Text bytes) = refl
@@ -214,24 +215,15 @@ module _ (mm : Metamodel) where
 
     begins_of : (v : Value) (form : List ℕ) → B (x.begins mm v form)
     unfolding x.begins
-    begins_of v form = in_turn AreHeld (λ _. ⊤) (IsBounded mm) (given (made (text_form mm v))) (λ bytes. done (y.truth (starts_with nat_eq form bytes))) (anything AreHeld (given (made (text_form mm v)))) (λ bytes _. refl)
+    begins_of v form = in_turn AreHeld (λ _. ⊤) (IsBounded mm) (given (made (text_form mm v))) (λ bytes. done (flag (starts_with nat_eq form bytes))) (anything AreHeld (given (made (text_form mm v)))) (λ bytes _. refl)
 
-    on_scalar_of : (service : Service) (t : Option ℕ) (v : Value) (z : Scalar) → B (on_scalar mm service t v z)
-    unfolding on_scalar
-    on_scalar_of s.OclIsKindOf t v z = tested_of (y.conforms_to mm t) z
-    on_scalar_of s.OclIsTypeOf t v z = tested_of (y.is_exactly t) z
-    on_scalar_of s.OclAsType t v z = as_type_of t z
-    on_scalar_of s.Concat t v z = in_turn AreHeld (λ _. ⊤) (IsBounded mm) (x.alive z) (λ _. x.concat mm v (scalar_form mm z)) (anything AreHeld (x.alive z)) (λ _ _. concat_of v (scalar_form mm z))
-    on_scalar_of s.StartsWith t v z = in_turn AreHeld (λ _. ⊤) (IsBounded mm) (x.alive z) (λ _. x.begins mm v (scalar_form mm z)) (anything AreHeld (x.alive z)) (λ _ _. begins_of v (scalar_form mm z))
-    on_scalar_of service t v z = of_object_of (n.from_object mm service t) (from_object_of service t) z
+    of_form_of : (f : List ℕ → Reading Value) → ((form : List ℕ) → B (f form)) → (z : Scalar) → B (x.of_form mm f z)
+    unfolding x.of_form
+    of_form_of f h z = in_turn AreHeld (λ _. ⊤) (IsBounded mm) (x.alive z) (λ _. f (scalar_form mm z)) (anything AreHeld (x.alive z)) (λ _ _. h (scalar_form mm z))
 
-    on_null_of : (service : Service) (v : Value) → B (on_null mm service v)
-    unfolding on_null
-    on_null_of s.OclIsKindOf v = refl
-    on_null_of s.OclIsTypeOf v = refl
-    on_null_of s.Concat v = concat_of v []
-    on_null_of s.StartsWith v = begins_of v []
-    on_null_of _ v = tt
+    navigated_of : (way : Navigation) (t : Option ℕ) (r : Value) → IsBounded mm r → B (navigated mm way t r)
+    unfolding navigated
+    navigated_of way t r h = of_lifted AreHeld mm (n.of_object (n.from_object mm way t)) (λ z _. of_object_of (n.from_object mm way t) (from_object_of way t) z) (done Null) tt r h
 
     -- ---- services of collections
 
@@ -244,6 +236,19 @@ module _ (mm : Metamodel) where
 
     on_receiver_of : (service : Service) (t : Option ℕ) (v r : Value) → IsBounded mm v → IsBounded mm r → B (on_receiver mm service t v r)
     unfolding on_receiver c.filtered c.at c.including c.as_sort
+    on_receiver_of s.EContainer t v r b h = navigated_of w.EContainer t r h
+    on_receiver_of s.EContents t v r b h = navigated_of w.EContents t r h
+    on_receiver_of s.EAllContents t v r b h = navigated_of w.EAllContents t r h
+    on_receiver_of s.EInverse t v r b h = navigated_of w.EInverse t r h
+    on_receiver_of s.Ancestors t v r b h = navigated_of w.Ancestors t r h
+    on_receiver_of s.Siblings t v r b h = navigated_of w.Siblings t r h
+    on_receiver_of s.PrecedingSiblings t v r b h = navigated_of w.PrecedingSiblings t r h
+    on_receiver_of s.FollowingSiblings t v r b h = navigated_of w.FollowingSiblings t r h
+    on_receiver_of s.OclIsKindOf t v r b h = of_lifted AreHeld mm (y.tested (y.conforms_to mm t)) (λ z _. tested_of (y.conforms_to mm t) z) (done (flag false)) refl r h
+    on_receiver_of s.OclIsTypeOf t v r b h = of_lifted AreHeld mm (y.tested (y.is_exactly t)) (λ z _. tested_of (y.is_exactly t) z) (done (flag false)) refl r h
+    on_receiver_of s.OclAsType t v r b h = of_lifted AreHeld mm (y.as_type mm t) (λ z _. as_type_of t z) (done Null) tt r h
+    on_receiver_of s.Concat t v r b h = of_lifted AreHeld mm (x.of_form mm (x.concat mm v)) (λ z _. of_form_of (x.concat mm v) (concat_of v) z) (x.concat mm v []) (concat_of v []) r h
+    on_receiver_of s.StartsWith t v r b h = of_lifted AreHeld mm (x.of_form mm (x.begins mm v)) (λ z _. of_form_of (x.begins mm v) (begins_of v) z) (x.begins mm v []) (begins_of v []) r h
     on_receiver_of s.Filter t v r b h = in_turn AreHeld (λ ys. IsSublist ys (members r)) (IsBounded mm) (y.kept mm t (members r)) (λ xs. done (collection (sort_of r) xs)) (kept_of t (members r)) (λ xs k. bounded_kept mm r xs k h)
     on_receiver_of s.First t v r b h = member_bounded (members r) 0 (bounded_members mm r h)
     on_receiver_of s.Last t v r b h = member_bounded (members r) (length (members r) - 1) (bounded_members mm r h)
@@ -260,7 +265,6 @@ module _ (mm : Metamodel) where
     on_receiver_of s.Excluding t v r b h = bounded_kept mm r (filter (λ z. not (c.is_same v z)) (members r)) (filter_sublist (λ z. not (c.is_same v z)) (members r)) h
     on_receiver_of s.AsSequence t v r b h = in_turn AreHeld (λ ys. IsBounded mm (Sequence ys)) (IsBounded mm) (given (put sort.Sequence [] r)) (λ xs. done (Sequence xs)) (put_of sort.Sequence [] r (empty_bounded mm sort.Sequence) h) (λ xs i. i)
     on_receiver_of s.AsOrderedSet t v r b h = in_turn AreHeld (λ ys. IsBounded mm (OrderedSet ys)) (IsBounded mm) (given (put sort.OrderedSet [] r)) (λ xs. done (OrderedSet xs)) (put_of sort.OrderedSet [] r (empty_bounded mm sort.OrderedSet) h) (λ xs i. i)
-    on_receiver_of service t v r b h = of_lifted AreHeld mm (on_scalar mm service t v) (λ z _. on_scalar_of service t v z) (on_null mm service v) (on_null_of service v) r h
 
     -- a service with its arguments
     pub service_of : (service : Service) (r : Value) (arguments : List Argument) → IsBounded mm r → IsBounded mm (value_in arguments) → B (meaning mm service r arguments)

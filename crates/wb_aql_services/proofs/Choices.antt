@@ -3,14 +3,14 @@ use Rattle.std.proofs.Common.{◌≡◌, List, Option, Some, None, Result, Ok, E
 use Rattle.std.specs.Option.{option_map_or}
 use Rattle.wb_store.specs.declared.scalars.Scalar.{Scalar}
 use Rattle.wb_store.specs.declared.scalars.Cell.{Cell}
-use Rattle.wb_aql_values.specs.declared.faults.Stop.{Stop}
+use Rattle.wb_aql_values.specs.declared.faults.Halt.{Halt}
 use Rattle.wb_aql_values.specs.declared.faults.Fault.{Fault}
-use Rattle.wb_aql_values.specs.declared.faults.Stop.TheVariants as s
+use Rattle.wb_aql_values.specs.declared.faults.Halt.TheVariants as s
 use Rattle.wb_aql_values.specs.Readings.{Content, Reading, held, given, ◌>>=◌}
 use Rattle.wb_aql_values.specs.Runs.{Ran, run, with_read, Gives, Became}
 
 -- what another run gave that is the same
-pub as_given : {B : Type 0} (ran other : Ran B) (result : Result B Stop) (new : List Cell) → ran ≡ other → Gives other result new → Gives ran result new
+pub as_given : {B : Type 0} (ran other : Ran B) (result : Result B Halt) (new : List Cell) → ran ≡ other → Gives other result new → Gives ran result new
 as_given ran other result new e h = subst (λ r. Gives r result new) (sym e) h
 
 module _ {A B : Type 0} (f : A → Reading B) (d : Reading B) (m : (c : Cell) → Content c) where
@@ -34,7 +34,7 @@ module _ (m : (c : Cell) → Content c) (expected : Result (List Scalar) Fault) 
   unfolding run
   became_run xs old e = ap (λ r. run (given r) m old) e
 
-  pub became_stopped : (stop : Stop) (xs : List Scalar) (old : List Cell) → Became (Err stop) expected xs → Gives (run (given expected) m old) (Err stop) old
+  pub became_stopped : (stop : Halt) (xs : List Scalar) (old : List Cell) → Became (Err stop) expected xs → Gives (run (given expected) m old) (Err stop) old
   unfolding run
   became_stopped (s.Fault fault) xs old h = ap (λ r. run (given r) m old) h
   became_stopped s.NoMemory xs old h = tt

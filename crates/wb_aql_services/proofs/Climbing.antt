@@ -3,7 +3,7 @@ use Rattle.std.proofs.Common.{◌≡◌, ℕ, ◌<◌, ◌≤◌, zero, suc, tru
 use Rattle.std.proofs.lemmas.Bool.{false≢true, false_from_ne_true}
 use Rattle.std.proofs.lemmas.List.{length-map}
 use Rattle.std.proofs.lemmas.Option.{same_Some}
-use Rattle.std.specs.Prelude.{filter, find}
+use Rattle.std.specs.Prelude.{filter, find, map}
 use Rattle.std.specs.Option.{option_map_or}
 use Rattle.std.specs.FinMap.{entries, keys, len-entries}
 use Rattle.wb_metamodel.specs.Metamodel.{Metamodel}
@@ -19,19 +19,19 @@ use Rattle.wb_validity.specs.ValidTest.{is_within}
 use Rattle.wb_aql_values.specs.declared.values.Value.{Value}
 use Rattle.wb_aql_values.specs.declared.values.Value.TheVariants.{Null, One}
 use Rattle.wb_aql_values.specs.Readings.{contents}
-use Rattle.wb_aql_values.specs.Runs.{Ran, run, with_read}
+use Rattle.wb_aql_values.specs.Runs.{Ran, run, with_read, with_reads}
 use Rattle.wb_aql_services.specs.Types.{is_of}
 use Rattle.wb_aql_services.specs.Navigation.{climbed, nearest, height}
-use Rattle.wb_aql_services.specs.Climbs.{AreAbove, IsClimbed, first_of}
+use Rattle.wb_aql_services.specs.Climbs.{AreAbove, IsClimbed, first_of, looked_at}
 use Rattle.wb_aql_services.specs.Climbs.AreAbove.{top, under}
-use Rattle.wb_store.proofs.Filtered.{In-cons, filter-few}
+use Rattle.wb_store.proofs.Filtered.{In-cons}
 use Rattle.wb_store.proofs.Members.{In}
 use Rattle.wb_store.proofs.Members.In.{here, there}
-use Rattle.wb_validity.proofs.Trees.{one_fewer, live_In}
+use Rattle.wb_validity.proofs.Trees.{all_pass, one_fewer, live_In}
 use Rattle.wb_validity.proofs.ValidTest.{is_within-decides}
 use Rattle.wb_model.proofs.EditEffects.{holder-is}
 use Rattle.wb_model.proofs.KeptLinks.{sound, housed}
-use Rattle.wb_model.proofs.Live.{holder-live}
+use Rattle.wb_model.proofs.Live.{contained-live, holder-live}
 use Rattle.wb_model.proofs.MoveSteps.{holder-some, holder-none}
 use Rattle.wb_model.proofs.TreesWithin.{among-In, In-among}
 use Rattle.wb_aql_services.proofs.Climbs.{onward, climbed_next, climbed_none, judged, searched, judge, nearest_next, nearest_none}
@@ -48,14 +48,6 @@ module _ (m : Contents) (v : IsValid m) where
   counted : ℕ → ℕ
   counted o = length (filter (λ p. is_within m p o) (keys m.kinds))
 
-  few : (o : ℕ) → counted o ≤ height
-  unfolding counted
-  few o =
-      let some = filter-few (λ p. is_within m p o) (keys m.kinds) in
-      let keys_are = length-map (entries m.kinds) (λ (e : ℕ × ℕ). e.0) in
-      let most = (sound m v).few in
-      omega (arith, some, keys_are, len-entries m.kinds, most)
-
   -- the container counts for what it contains and not for itself
   falls : (o p f : ℕ) → holder m o ≡ Some (p, f) → counted p < counted o
   unfolding counted
@@ -67,19 +59,24 @@ module _ (m : Contents) (v : IsValid m) where
       (false_from_ne_true _ (λ w. (housed m v).no_ring p ((is_within-decides m p p).0 w)))
       ((is_within-decides m p o).1 (directly f c))
 
-  stops : (n o p f : ℕ) → holder m o ≡ Some (p, f) → counted o ≤ suc n → counted p ≤ n
+  stops : (n o p f : ℕ) → holder m o ≡ Some (p, f) → counted o < suc n → counted p < n
   stops n o p f e l = let less = falls o p f e in omega (arith, less, l)
 
-  never : (o p f : ℕ) → holder m o ≡ Some (p, f) → counted o ≤ zero → ⊥
-  never o p f e l = let less = falls o p f e in omega (arith, less, l)
+  -- what stands in a container is live, and does not count for itself
+  below_height : (o p f : ℕ) → holder m o ≡ Some (p, f) → counted o < height
+  unfolding counted
+  below_height o p f e =
+      let live = contained-live m (sound m v) p f o (holder-some m o p f e) in
+      let less = one_fewer (λ q. is_within m q o) (λ q. true) (keys m.kinds) o (λ q w. refl) (live_In m o live) (false_from_ne_true _ (λ w. (housed m v).no_ring o ((is_within-decides m o o).0 w))) refl in
+      let all = all_pass (keys m.kinds) in
+      let keys_are = length-map (entries m.kinds) (λ (e : ℕ × ℕ). e.0) in
+      let most = (sound m v).few in
+      omega (arith, less, all, keys_are, len-entries m.kinds, most)
 
   -- ---- all containers are met
 
   abbrev Meets : ℕ → List ℕ → ℕ → List Cell → Type 0
-  Meets n met o old = (os : List ℕ) × AreAbove m o os × ((run (climbed n met o) (contents m) old).gave ≡ Ok (met ++ os))
-
-  met_before : (r : Ran (List ℕ)) (met : List ℕ) (old : List Cell) → r ≡ record { gave = Ok met; reads = old } → r.gave ≡ Ok (met ++ [])
-  met_before r met old e = ap (λ (r : Ran (List ℕ)). r.gave) e ∙ ap Ok (sym (append-nil met))
+  Meets n met o old = (os : List ℕ) × AreAbove m o os × (run (climbed n met o) (contents m) old ≡ record { gave = Ok (met ++ os); reads = with_reads old (map Holder (o ∷ os)) })
 
   ends : (n : ℕ) (met : List ℕ) (o : ℕ) (old : List Cell) → holder m o ≡ None → run (climbed (suc n) met o) (contents m) old ≡ record { gave = Ok met; reads = with_read old (Holder o) }
   unfolding onward run
@@ -89,22 +86,29 @@ module _ (m : Contents) (v : IsValid m) where
   unfolding onward
   goes_on n met o p f old e = climbed_next m n met o old ∙ ap (λ place. run (onward m n met place) (contents m) (with_read old (Holder o))) e
 
-  meets : (n : ℕ) (met : List ℕ) (o : ℕ) (old : List Cell) → counted o ≤ n → Meets n met o old
-  meets zero met o old l =
-      elim (holder m o) as (λ r. holder m o ≡ r → Meets zero met o old) [
-        | None ↦ λ e. ([], top e, met_before _ met old (climbed_none m met o old))
-        | Some place ↦ λ e. absurd (never o place.0 place.1 e l)
-      ] refl
+  at_top : (n : ℕ) (met : List ℕ) (o : ℕ) (old : List Cell) → holder m o ≡ None → Meets (suc n) met o old
+  at_top n met o old e = ([], top e, ends n met o old e ∙ ap (λ ms. record { gave = Ok ms; reads = with_read old (Holder o) }) (sym (append-nil met)))
+
+  meets : (n : ℕ) (met : List ℕ) (o : ℕ) (old : List Cell) → counted o < n → Meets n met o old
+  meets zero met o old l = absurd (omega (arith, l))
   meets (suc n) met o old l =
       elim (holder m o) as (λ r. holder m o ≡ r → Meets (suc n) met o old) [
-        | None ↦ λ e. ([], top e, met_before _ met (with_read old (Holder o)) (ends n met o old e))
+        | None ↦ λ e. at_top n met o old e
         | Some place ↦ λ e.
-            let rest = meets n (met ++ place.0 ∷ []) place.0 (with_read old (Holder o)) (stops n o place.0 place.1 e l) in
-            (place.0 ∷ rest.0, under e rest.1, ap (λ (r : Ran (List ℕ)). r.gave) (goes_on n met o place.0 place.1 old e) ∙ rest.2 ∙ ap Ok (append_assoc met (place.0 ∷ []) rest.0))
+            let now = with_read old (Holder o) in
+            let rest = meets n (met ++ place.0 ∷ []) place.0 now (stops n o place.0 place.1 e l) in
+            (place.0 ∷ rest.0, under e rest.1, goes_on n met o place.0 place.1 old e ∙ (rest.2 ∙ ap (λ ms. record { gave = Ok ms; reads = with_reads now (map Holder (place.0 ∷ rest.0)) }) (append_assoc met (place.0 ∷ []) rest.0)))
+      ] refl
+
+  from_below : (o : ℕ) (old : List Cell) → Meets height [] o old
+  from_below o old =
+      elim (holder m o) as (λ r. holder m o ≡ r → Meets height [] o old) [
+        | None ↦ λ e. at_top 19999 [] o old e
+        | Some place ↦ λ e. meets height [] o old (below_height o place.0 place.1 e)
       ] refl
 
   pub climbed-all : (o : ℕ) (old : List Cell) → IsClimbed m o old
-  climbed-all o old = let all = meets height [] o old (few o) in record { met = all.0; above = all.1; gave = all.2 }
+  climbed-all o old = let all = from_below o old in record { met = all.0; above = all.1; ran = all.2 }
 
   -- ---- they are what the object stands within
 
@@ -135,18 +139,22 @@ module _ (m : Contents) (v : IsValid m) where
         ∙ ap (λ place. run (searched m mm t n place) (contents m) (with_read old (Holder o))) e
         ∙ sym (judge m mm t n (p, f) (is_of mm t (kind m p)) (with_read old (Holder o)) (with_read (with_read old (Holder o)) (Kind p)) refl refl)
 
-    finds : (n o : ℕ) (os : List ℕ) (old : List Cell) → AreAbove m o os → counted o ≤ n → (run (nearest mm t n o) (contents m) old).gave ≡ Ok (first_of mm t m os)
+    finds : (n o : ℕ) (os : List ℕ) (old : List Cell) → AreAbove m o os → counted o < n → run (nearest mm t n o) (contents m) old ≡ record { gave = Ok (first_of mm t m os); reads = with_reads old (looked_at mm t m o os) }
     unfolding judged run
-    finds zero o [] old (top e) l = ap (λ (r : Ran Value). r.gave) (nearest_none m mm t o old)
-    finds zero o (p ∷ os) old (under {f = f} e a) l = absurd (never o p f e l)
-    finds (suc n) o [] old (top e) l = ap (λ (r : Ran Value). r.gave) (finds_none n o old e)
+    finds zero o os old a l = absurd (omega (arith, l))
+    finds (suc n) o [] old (top e) l = finds_none n o old e
     finds (suc n) o (p ∷ os) old (under {f = f} e a) l =
         let now = with_read (with_read old (Holder o)) (Kind p) in
-        ap (λ (r : Ran Value). r.gave) (looks_on n o p f old e)
-        ∙ elim (is_of mm t (kind m p)) as (λ b. (run (judged m mm t n p b) (contents m) now).gave ≡ Ok (option_map_or (λ o. One (Object o)) (cond b (Some p) (find (λ o. is_of mm t (kind m o)) os)) Null)) [
+        looks_on n o p f old e
+        ∙ elim (is_of mm t (kind m p)) as (λ b. run (judged m mm t n p b) (contents m) now
+        ≡ record { gave = Ok (option_map_or (λ o. One (Object o)) (cond b (Some p) (find (λ o. is_of mm t (kind m o)) os)) Null); reads = with_reads now (cond b [] (looked_at mm t m p os)) }) [
           | true ↦ refl
           | false ↦ finds n p os now a (stops n o p f e l)
         ]
+
+    found : (o : ℕ) (os : List ℕ) (old : List Cell) → AreAbove m o os → run (nearest mm t height o) (contents m) old ≡ record { gave = Ok (first_of mm t m os); reads = with_reads old (looked_at mm t m o os) }
+    found o [] old (top e) = finds_none 19999 o old e
+    found o (p ∷ os) old (under {f = f} e a) = finds height o (p ∷ os) old (under e a) (below_height o p f e)
 
 -- ---- the law
 
@@ -156,5 +164,6 @@ climbed-whole m v o old = climbed-all m v o old
 pub above-decides : (m : Contents) → IsValid m → (o : ℕ) (os : List ℕ) → AreAbove m o os → (p : ℕ) → (is_among os p ≡ true) ↔ Within m p o
 above-decides m v o os a p = (λ h. above-within m v o os a p (among-In os p h), λ w. In-among os p (within-above m v o os a p w))
 
-pub nearest-first : (m : Contents) → IsValid m → (o : ℕ) (os : List ℕ) → AreAbove m o os → (mm : Metamodel) (t : Option ℕ) (old : List Cell) → (run (nearest mm t height o) (contents m) old).gave ≡ Ok (first_of mm t m os)
-nearest-first m v o os a mm t old = finds m v mm t height o os old a (few m v o)
+pub nearest-first : (m : Contents) → IsValid m → (o : ℕ) (os : List ℕ) → AreAbove m o os → (mm : Metamodel) (t : Option ℕ) (old : List Cell)
+    → run (nearest mm t height o) (contents m) old ≡ record { gave = Ok (first_of mm t m os); reads = with_reads old (looked_at mm t m o os) }
+nearest-first m v o os a mm t old = found m v mm t o os old a

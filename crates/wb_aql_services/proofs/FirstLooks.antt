@@ -7,7 +7,7 @@ use Rattle.wb_store.specs.declared.scalars.Scalar.TheVariants.{Object}
 use Rattle.wb_store.specs.declared.scalars.Cell.{Cell}
 use Rattle.wb_store.specs.declared.scalars.Cell.TheVariants.{Kind}
 use Rattle.wb_store.specs.Contents.{Contents, kind}
-use Rattle.wb_aql_values.specs.declared.faults.Stop.{Stop}
+use Rattle.wb_aql_values.specs.declared.faults.Halt.{Halt}
 use Rattle.wb_aql_values.specs.Readings.{Content, contents, Reading, done, held, ◌>>=◌, class_of}
 use Rattle.wb_aql_values.specs.Runs.{run, with_read, Gives}
 use Rattle.wb_aql_values.proofs.RunLemmas.{followed, stopped}
@@ -20,7 +20,7 @@ module _ {B : Type 0} (next : ℕ → ℕ → Reading B) (d : Reading B) (m : (c
   first_none x old e = at_none (λ o. class_of o >>= next o) d m (object_in x) old e
 
   -- an object without a class, or want of memory
-  pub first_stopped : (x : Scalar) (o : ℕ) (old : List Cell) (stop : Stop) (new : List Cell) → object_in x ≡ Some o → Gives (run (class_of o) m old) (Err stop) new
+  pub first_stopped : (x : Scalar) (o : ℕ) (old : List Cell) (stop : Halt) (new : List Cell) → object_in x ≡ Some o → Gives (run (class_of o) m old) (Err stop) new
       → Gives (run (option_map_or (λ o. class_of o >>= next o) (object_in x) d) m old) (Err stop) new
   first_stopped x o old stop new e h = as_given _ _ (Err stop) new (at_some (λ o. class_of o >>= next o) d m (object_in x) o old e) (stopped (next o) m (class_of o) old stop new h)
 

@@ -4,6 +4,5 @@ pub mod Climbing
 pub mod Climbs
 pub mod FirstLooks
 pub mod Handed
-pub mod Others
 pub mod Sequencing
 pub mod ServedValues

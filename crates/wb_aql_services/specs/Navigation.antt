@@ -9,8 +9,8 @@ use Rattle.wb_store.specs.declared.scalars.Scalar.TheVariants.{Object}
 use Rattle.wb_store.specs.declared.scalars.Cell.TheVariants.{Kind, Slot, Holder, Tree, Inverse, Roots}
 use Rattle.wb_store.specs.Contents.{is_containment}
 use Rattle.wb_store.specs.Cells.{objects_in}
-use Rattle.wb_aql_check.specs.declared.services.Service.{Service}
-use Rattle.wb_aql_check.specs.declared.services.Service.TheVariants as s
+use Rattle.wb_aql_services.specs.declared.by_dot.Navigation.{Navigation}
+use Rattle.wb_aql_services.specs.declared.by_dot.Navigation.TheVariants as n
 use Rattle.wb_aql_values.specs.declared.faults.Fault.TheVariants.{NotAnObject}
 use Rattle.wb_aql_values.specs.declared.values.Sort.TheVariants as sort
 use Rattle.wb_aql_values.specs.declared.values.Value.{Value}
@@ -98,15 +98,14 @@ following mm o = beside mm o >>= λ os. sequence mm None (after_first (λ p. nat
 unfoldable pub e_inverse : ℕ → Reading Value
 e_inverse o = held (Inverse o) >>= λ pairs. given (put sort.OrderedSet [] (Sequence (map (λ (pair : ℕ × ℕ). Object pair.0) pairs))) >>= λ xs. done (OrderedSet xs)
 
--- ---- each by its name; another service starts from no object
+-- ---- each by its name
 
-unfoldable pub from_object : Metamodel → Service → Option ℕ → ℕ → ℕ → Reading Value
-from_object mm s.EContainer t o c = e_container mm t o
-from_object mm s.EContents t o c = e_contents mm t o c
-from_object mm s.EAllContents t o c = e_all_contents mm t o
-from_object mm s.EInverse t o c = e_inverse o
-from_object mm s.Ancestors t o c = ancestors mm t o
-from_object mm s.Siblings t o c = siblings mm o
-from_object mm s.PrecedingSiblings t o c = preceding mm o
-from_object mm s.FollowingSiblings t o c = following mm o
-from_object mm _ t o c = done Null
+unfoldable pub from_object : Metamodel → Navigation → Option ℕ → ℕ → ℕ → Reading Value
+from_object mm n.EContainer t o c = e_container mm t o
+from_object mm n.EContents t o c = e_contents mm t o c
+from_object mm n.EAllContents t o c = e_all_contents mm t o
+from_object mm n.EInverse t o c = e_inverse o
+from_object mm n.Ancestors t o c = ancestors mm t o
+from_object mm n.Siblings t o c = siblings mm o
+from_object mm n.PrecedingSiblings t o c = preceding mm o
+from_object mm n.FollowingSiblings t o c = following mm o

@@ -3,10 +3,11 @@ use Rattle.std.specs.Prelude.{ℕ, Bool, true, false, nat_eq, List, [], ◌∷�
 use Rattle.std.specs.Option.{option_map_or}
 use Rattle.wb_metamodel.specs.Metamodel.{Metamodel, conforms}
 use Rattle.wb_store.specs.declared.scalars.Scalar.{Scalar}
-use Rattle.wb_store.specs.declared.scalars.Scalar.TheVariants.{Bool as Boolean, Object}
+use Rattle.wb_store.specs.declared.scalars.Scalar.TheVariants.{Int, Bool as Boolean, Text, Literal, Object}
 use Rattle.wb_store.specs.declared.scalars.Cell.TheVariants.{Kind}
 use Rattle.wb_aql_values.specs.declared.values.Value.{Value}
 use Rattle.wb_aql_values.specs.declared.values.Value.TheVariants.{Null, One}
+use Rattle.wb_aql_values.specs.Values.{flag}
 use Rattle.wb_aql_values.specs.Readings.{Reading, done, ◌>>=◌, held, each, class_of}
 
 -- does a class conform to a type? Every class does where no type is asked for.
@@ -26,7 +27,10 @@ is_of mm t kind = option_map_or (conforms_to mm t) kind false
 -- the object that a scalar is, if it is one
 abbrev pub object_in : Scalar → Option ℕ
 object_in (Object o) = Some o
-object_in _ = None
+object_in (Int i) = None
+object_in (Boolean b) = None
+object_in (Text bytes) = None
+object_in (Literal e l) = None
 
 -- a live object that conforms to the type is kept; what is no object is dropped without a look
 unfoldable pub keep : Metamodel → Option ℕ → List Scalar → Scalar → Reading (List Scalar)
@@ -41,12 +45,9 @@ abbrev pub narrowed : Metamodel → Option ℕ → List Scalar → Reading (List
 narrowed mm None xs = done xs
 narrowed mm (Some t) xs = kept mm (Some t) xs
 
-abbrev pub truth : Bool → Value
-truth b = One (Boolean b)
-
 -- `oclIsKindOf` and `oclIsTypeOf`: a test of an object's class; what is no object is of no class
 unfoldable pub tested : (ℕ → Bool) → Scalar → Reading Value
-tested test x = option_map_or (λ o. class_of o >>= λ c. done (truth (test c))) (object_in x) (done (truth false))
+tested test x = option_map_or (λ o. class_of o >>= λ c. done (flag (test c))) (object_in x) (done (flag false))
 
 -- `oclAsType`: the object where it conforms, and else null
 unfoldable pub as_type : Metamodel → Option ℕ → Scalar → Reading Value

@@ -19,7 +19,8 @@ pub fn type_in(arguments: &[Argument]) -> Option<ClassId>
 {
     match arguments {
         [Argument::Class(class), ..] => Some(*class),
-        _ => None,
+        [Argument::Of(_), ..] => None,
+        [] => None,
     }
 }
 
@@ -30,6 +31,7 @@ pub fn value_in<'a>(arguments: &'a [Argument], null: &'a Value) -> &'a Value
 {
     match arguments {
         [Argument::Of(value), ..] => value,
-        _ => null,
+        [Argument::Class(_), ..] => null,
+        [] => null,
     }
 }

@@ -2,27 +2,16 @@ ghost use Rattle.std.specs.Prelude.{◌≡◌, IfOk, filter, length, not};
 ghost use Rattle.std.specs.Option.{option_copied};
 ghost use Rattle.wb_aql_services.specs.Asked.{IsType};
 ghost use Rattle.wb_aql_services.specs.Collections.{as_sort, at, excluding, filtered, first, includes, including, int_in, is_empty, is_same, last, member_at, member_or_null, size};
-ghost use Rattle.wb_aql_services.specs.Types.{truth};
 ghost use Rattle.wb_aql_values.specs.Readings.{contents};
 ghost use Rattle.wb_aql_values.specs.Runs.{Gives, run};
-ghost use Rattle.wb_aql_values.specs.Values.{collection};
+ghost use Rattle.wb_aql_values.specs.Values.{flag};
 
 use crate::types::kept;
 use std::alloc::{AllocError, Global};
-use wb_aql_values::{Fault, Gathered, Reads, Sort, Stop, Value};
+use wb_aql_values::{Fault, Gathered, Halt, Reads, Sort, Value, collection, flag};
 use wb_base::{Duplicate, List};
 use wb_metamodel::ClassId;
 use wb_model::{Model, Scalar};
-
-/// The collection of a sort that has these members.
-fn collection(sort: Sort, members: List<Scalar>) -> Value
-    ensures { result ≡ collection sort members }
-{
-    match sort {
-        Sort::Sequence => Value::Sequence(members),
-        Sort::OrderedSet => Value::OrderedSet(members),
-    }
-}
 
 /// `filter`: the live objects that conform to a type.
 pub fn filtered(
@@ -31,7 +20,7 @@ pub fn filtered(
     receiver: &Value,
     model: &Model,
     reads: &mut Reads,
-) -> Result<Value, Stop>
+) -> Result<Value, Halt>
     requires { IsType model.now.metamodel asked.now }
     ensures { Gives (run (filtered model.now.metamodel asked.now receiver.now) (contents model.now) reads.old) result reads.new }
 {
@@ -67,11 +56,11 @@ pub fn at(
     receiver: &Value,
     model: &Model,
     reads: &mut Reads,
-) -> Result<Value, Stop>
+) -> Result<Value, Halt>
     ensures { Gives (run (at place.now receiver.now) (contents model.now) reads.old) result reads.new }
 {
     let Some(place) = int_in(place) else {
-        return Err(Stop::Fault(Fault::NotInt));
+        return Err(Halt::Fault(Fault::NotInt));
     };
     Ok(member_or_null(alloc, member_at(place, receiver.members()))?)
 }
@@ -103,27 +92,27 @@ pub fn size(receiver: &Value) -> Value
 }
 
 pub fn is_empty(receiver: &Value) -> Value
-    ensures { result ≡ truth (is_empty receiver.now) }
+    ensures { result ≡ flag (is_empty receiver.now) }
 {
-    Value::One(Scalar::Bool(receiver.members().len() == 0))
+    flag(receiver.members().len() == 0)
 }
 
 pub fn not_empty(receiver: &Value) -> Value
-    ensures { result ≡ truth (not (is_empty receiver.now)) }
+    ensures { result ≡ flag (not (is_empty receiver.now)) }
 {
-    Value::One(Scalar::Bool(receiver.members().len() != 0))
+    flag(receiver.members().len() != 0)
 }
 
 pub fn includes(value: &Value, receiver: &Value) -> Value
-    ensures { result ≡ truth (includes value.now receiver.now) }
+    ensures { result ≡ flag (includes value.now receiver.now) }
 {
-    Value::One(Scalar::Bool(is_member(value, receiver)))
+    flag(is_member(value, receiver))
 }
 
 pub fn excludes(value: &Value, receiver: &Value) -> Value
-    ensures { result ≡ truth (not (includes value.now receiver.now)) }
+    ensures { result ≡ flag (not (includes value.now receiver.now)) }
 {
-    Value::One(Scalar::Bool(!is_member(value, receiver)))
+    flag(!is_member(value, receiver))
 }
 
 // Is a value a member? Null and a collection are none.
@@ -143,7 +132,7 @@ pub fn including(
     receiver: &Value,
     model: &Model,
     reads: &mut Reads,
-) -> Result<Value, Stop>
+) -> Result<Value, Halt>
     ensures { Gives (run (including value.now receiver.now) (contents model.now) reads.old) result reads.new }
 {
     let mut members = Gathered::new(alloc, receiver.sort());
@@ -181,7 +170,7 @@ pub fn as_sort(
     receiver: &Value,
     model: &Model,
     reads: &mut Reads,
-) -> Result<Value, Stop>
+) -> Result<Value, Halt>
     ensures { Gives (run (as_sort sort receiver.now) (contents model.now) reads.old) result reads.new }
 {
     let mut members = Gathered::new(alloc, sort);

@@ -9,7 +9,7 @@ ghost use Rattle.wb_aql_values.specs.Runs.{Gives, Leaves, run};
 
 use crate::sequences::sequence;
 use std::alloc::{AllocError, Global};
-use wb_aql_values::{Reads, Stop, Value};
+use wb_aql_values::{Halt, Reads, Value};
 use wb_base::List;
 use wb_metamodel::{ClassId, FeatureId, Metamodel, ObjectId};
 use wb_model::{Cell, Model, Scalar};
@@ -22,7 +22,7 @@ pub fn e_contents(
     class: ClassId,
     model: &Model,
     reads: &mut Reads,
-) -> Result<Value, Stop>
+) -> Result<Value, Halt>
     requires asked { IsType model.now.metamodel asked.now }
     requires class { class < length model.now.metamodel.classes }
     ensures { Gives (run (e_contents model.now.metamodel asked.now o class) (contents model.now) reads.old) result reads.new }
@@ -38,7 +38,7 @@ pub fn e_all_contents(
     o: ObjectId,
     model: &Model,
     reads: &mut Reads,
-) -> Result<Value, Stop>
+) -> Result<Value, Halt>
     requires { IsType model.now.metamodel asked.now }
     ensures { Gives (run (e_all_contents model.now.metamodel asked.now o) (contents model.now) reads.old) result reads.new }
 {
@@ -54,7 +54,7 @@ pub fn content(
     class: ClassId,
     model: &Model,
     reads: &mut Reads,
-) -> Result<List<ObjectId>, Stop>
+) -> Result<List<ObjectId>, Halt>
     requires { class < length model.now.metamodel.classes }
     ensures { Gives (run (content model.now.metamodel o class) (contents model.now) reads.old) result reads.new }
 {
@@ -87,7 +87,7 @@ fn push_slot(
     f: FeatureId,
     model: &Model,
     reads: &mut Reads,
-) -> Result<(), Stop>
+) -> Result<(), Halt>
     requires { f < length model.now.metamodel.features }
     ensures { Leaves (run (with_slot model.now.metamodel o content.old f) (contents model.now) reads.old) result content.new reads.new }
 {

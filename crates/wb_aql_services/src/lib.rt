@@ -17,4 +17,4 @@ pub use arguments::Argument;
 pub use climb_laws::climbs_are_never_cut_short;
 pub use serving::{run_service, serve};
 pub use wb_aql_check::Service;
-pub use wb_aql_values::{Answer, Fault, Reads, Stop, Value};
+pub use wb_aql_values::{Answer, Fault, Halt, Reads, Value};

@@ -7,7 +7,7 @@ ghost use Rattle.wb_aql_values.specs.Runs.{Gives, run};
 
 use crate::types::narrowed;
 use std::alloc::{AllocError, Global};
-use wb_aql_values::{Fault, Reads, Stop, Value};
+use wb_aql_values::{Fault, Halt, Reads, Value};
 use wb_base::List;
 use wb_metamodel::{ClassId, ObjectId};
 use wb_model::{Model, Scalar};
@@ -22,12 +22,12 @@ pub fn sequence(
     os: &[ObjectId],
     model: &Model,
     reads: &mut Reads,
-) -> Result<Value, Stop>
+) -> Result<Value, Halt>
     requires { IsType model.now.metamodel asked.now }
     ensures { Gives (run (sequence model.now.metamodel asked.now os.now) (contents model.now) reads.old) result reads.new }
 {
     if os.len() > MAX_MEMBERS {
-        return Err(Stop::Fault(Fault::TooLong));
+        return Err(Halt::Fault(Fault::TooLong));
     }
     let xs = scalars(alloc, os)?;
     let ys = narrowed(alloc, asked, xs, model, reads)?;

@@ -1,4 +1,4 @@
-ghost use Rattle.std.specs.Prelude.{◌≡◌, All, IfOk};
+ghost use Rattle.std.specs.Prelude.{◌≡◌, All, IfOk, OnErr};
 ghost use Rattle.wb_aql_services.specs.Asked.{IsArgument, IsType};
 ghost use Rattle.wb_aql_services.specs.Services.{meaning, on_receiver};
 ghost use Rattle.wb_aql_values.specs.Bounds.{IsBounded};
@@ -6,18 +6,20 @@ ghost use Rattle.wb_aql_values.specs.Readings.{contents};
 ghost use Rattle.wb_aql_values.specs.Runs.{Gives, answered, run};
 
 use crate::arguments::{Argument, type_in, value_in};
-use crate::by_dot::ByDot;
+use crate::by_dot::{AsType, Joining, Navigation, OfKind, OfType, Starting, navigate};
 use crate::collections::{
     as_sort, at, excludes, excluding, filtered, first, includes, including, is_empty, last,
     not_empty, size,
 };
 use std::alloc::{AllocError, Global};
 use wb_aql_check::Service;
-use wb_aql_values::{Answer, Reads, Sort, Stop, Value, lift};
+use wb_aql_values::{Answer, Halt, Reads, Sort, Value, lift};
+use wb_base::Duplicate;
 use wb_metamodel::ClassId;
-use wb_model::{Model, Scalar};
+use wb_model::Model;
 
 /// What a service gives, and the cells that it reads. An argument that the service does not take is not looked at.
+/// Its cells are noted apart, so that a service that finds no memory leaves no reads.
 pub fn serve(
     alloc: Global,
     service: Service,
@@ -30,11 +32,19 @@ pub fn serve(
     requires arguments { All (IsArgument model.now.metamodel) arguments.now }
     ensures gives { IfOk result (λ answer. run (meaning model.now.metamodel service receiver.now arguments.now) (contents model.now) reads.old ≡ record { gave = answered answer; reads = reads.new }) }
     ensures bounded { IfOk result (λ answer. IfOk (answered answer) (IsBounded model.now.metamodel)) }
+    ensures refused { OnErr result (reads.new ≡ reads.old) }
 {
-    match run_service(alloc, service, receiver, arguments, model, reads) {
-        Ok(value) => Ok(Answer::Value(value)),
-        Err(Stop::Fault(fault)) => Ok(Answer::Fault(fault)),
-        Err(Stop::NoMemory) => Err(AllocError),
+    let mut noted = reads.copy(alloc)?;
+    match run_service(alloc, service, receiver, arguments, model, &mut noted) {
+        Ok(value) => {
+            *reads = noted;
+            Ok(Answer::Value(value))
+        }
+        Err(Halt::Fault(fault)) => {
+            *reads = noted;
+            Ok(Answer::Fault(fault))
+        }
+        Err(Halt::NoMemory) => Err(AllocError),
     }
 }
 
@@ -46,7 +56,7 @@ pub fn run_service(
     arguments: &[Argument],
     model: &Model,
     reads: &mut Reads,
-) -> Result<Value, Stop>
+) -> Result<Value, Halt>
     requires receiver { IsBounded model.now.metamodel receiver.now }
     requires arguments { All (IsArgument model.now.metamodel) arguments.now }
     ensures gives { Gives (run (meaning model.now.metamodel service receiver.now arguments.now) (contents model.now) reads.old) result reads.new }
@@ -66,13 +76,54 @@ fn on_receiver(
     receiver: &Value,
     model: &Model,
     reads: &mut Reads,
-) -> Result<Value, Stop>
+) -> Result<Value, Halt>
     requires asked { IsType model.now.metamodel asked.now }
     requires value { IsBounded model.now.metamodel value.now }
     requires receiver { IsBounded model.now.metamodel receiver.now }
     ensures { Gives (run (on_receiver model.now.metamodel service asked.now value.now receiver.now) (contents model.now) reads.old) result reads.new }
 {
     match service {
+        Service::EContainer => navigate(
+            alloc,
+            Navigation::EContainer,
+            asked,
+            receiver,
+            model,
+            reads,
+        ),
+        Service::EContents => navigate(alloc, Navigation::EContents, asked, receiver, model, reads),
+        Service::EAllContents => navigate(
+            alloc,
+            Navigation::EAllContents,
+            asked,
+            receiver,
+            model,
+            reads,
+        ),
+        Service::EInverse => navigate(alloc, Navigation::EInverse, asked, receiver, model, reads),
+        Service::Ancestors => navigate(alloc, Navigation::Ancestors, asked, receiver, model, reads),
+        Service::Siblings => navigate(alloc, Navigation::Siblings, asked, receiver, model, reads),
+        Service::PrecedingSiblings => navigate(
+            alloc,
+            Navigation::PrecedingSiblings,
+            asked,
+            receiver,
+            model,
+            reads,
+        ),
+        Service::FollowingSiblings => navigate(
+            alloc,
+            Navigation::FollowingSiblings,
+            asked,
+            receiver,
+            model,
+            reads,
+        ),
+        Service::OclIsKindOf => lift(alloc, &OfKind { asked }, receiver, model, reads),
+        Service::OclIsTypeOf => lift(alloc, &OfType { asked }, receiver, model, reads),
+        Service::OclAsType => lift(alloc, &AsType { asked }, receiver, model, reads),
+        Service::Concat => lift(alloc, &Joining { value }, receiver, model, reads),
+        Service::StartsWith => lift(alloc, &Starting { value }, receiver, model, reads),
         Service::Filter => filtered(alloc, asked, receiver, model, reads),
         Service::First => Ok(first(alloc, receiver)?),
         Service::Last => Ok(last(alloc, receiver)?),
@@ -86,13 +137,5 @@ fn on_receiver(
         Service::Excluding => Ok(excluding(alloc, value, receiver)?),
         Service::AsSequence => as_sort(alloc, Sort::Sequence, receiver, model, reads),
         Service::AsOrderedSet => as_sort(alloc, Sort::OrderedSet, receiver, model, reads),
-        service => {
-            let by_dot = ByDot {
-                service,
-                asked,
-                value,
-            };
-            lift(alloc, &by_dot, receiver, model, reads)
-        }
     }
 }

@@ -9,13 +9,13 @@ ghost use Rattle.wb_aql_values.specs.Runs.{Gives, run};
 use crate::downwards::content;
 use crate::sequences::sequence;
 use std::alloc::{AllocError, Global};
-use wb_aql_values::{Gathered, Reads, Sort, Stop, Value, look_at_class};
+use wb_aql_values::{Gathered, Halt, Reads, Sort, Value, look_at_class};
 use wb_base::List;
 use wb_metamodel::{FeatureId, ObjectId};
 use wb_model::{Cell, Model, Scalar};
 
 /// `siblings`: the objects beside the object, without itself.
-pub fn siblings(alloc: Global, o: ObjectId, model: &Model, reads: &mut Reads) -> Result<Value, Stop>
+pub fn siblings(alloc: Global, o: ObjectId, model: &Model, reads: &mut Reads) -> Result<Value, Halt>
     ensures { Gives (run (siblings model.now.metamodel o) (contents model.now) reads.old) result reads.new }
 {
     let os = beside(alloc, o, model, reads)?;
@@ -29,7 +29,7 @@ pub fn preceding(
     o: ObjectId,
     model: &Model,
     reads: &mut Reads,
-) -> Result<Value, Stop>
+) -> Result<Value, Halt>
     ensures { Gives (run (preceding model.now.metamodel o) (contents model.now) reads.old) result reads.new }
 {
     let os = beside(alloc, o, model, reads)?;
@@ -42,7 +42,7 @@ pub fn following(
     o: ObjectId,
     model: &Model,
     reads: &mut Reads,
-) -> Result<Value, Stop>
+) -> Result<Value, Halt>
     ensures { Gives (run (following model.now.metamodel o) (contents model.now) reads.old) result reads.new }
 {
     let os = beside(alloc, o, model, reads)?;
@@ -74,7 +74,7 @@ fn beside(
     o: ObjectId,
     model: &Model,
     reads: &mut Reads,
-) -> Result<List<ObjectId>, Stop>
+) -> Result<List<ObjectId>, Halt>
     ensures { Gives (run (beside model.now.metamodel o) (contents model.now) reads.old) result reads.new }
 {
     reads.note(Cell::Holder(o))?;
@@ -90,14 +90,14 @@ fn content_of(
     o: ObjectId,
     model: &Model,
     reads: &mut Reads,
-) -> Result<List<ObjectId>, Stop>
+) -> Result<List<ObjectId>, Halt>
     ensures { Gives (run (content_of model.now.metamodel o) (contents model.now) reads.old) result reads.new }
 {
     let class = look_at_class(model, o, reads)?;
     content(alloc, o, class, model, reads)
 }
 
-fn roots(alloc: Global, model: &Model, reads: &mut Reads) -> Result<List<ObjectId>, Stop>
+fn roots(alloc: Global, model: &Model, reads: &mut Reads) -> Result<List<ObjectId>, Halt>
     ensures { Gives (run (held Roots) (contents model.now) reads.old) result reads.new }
 {
     reads.note(Cell::Roots)?;
@@ -145,7 +145,7 @@ pub fn e_inverse(
     o: ObjectId,
     model: &Model,
     reads: &mut Reads,
-) -> Result<Value, Stop>
+) -> Result<Value, Halt>
     ensures { Gives (run (e_inverse o) (contents model.now) reads.old) result reads.new }
 {
     reads.note(Cell::Inverse(o))?;

@@ -8,13 +8,15 @@ ghost use Rattle.wb_aql_services.specs.Texts.{alive, begins, concat};
 
 use crate::types::object_in;
 use std::alloc::{AllocError, Global};
-use wb_aql_values::{Fault, Reads, Stop, Value, look_at_class, push_form, push_scalar, text_form};
+use wb_aql_values::{
+    Fault, Halt, Reads, Value, flag, look_at_class, push_form, push_scalar, text_form,
+};
 use wb_base::Text;
 use wb_metamodel::Metamodel;
 use wb_model::{Model, Scalar};
 
 /// An object has a text form only while it lives: its class is read.
-pub fn look_whether_alive(x: &Scalar, model: &Model, reads: &mut Reads) -> Result<(), Stop>
+pub fn look_whether_alive(x: &Scalar, model: &Model, reads: &mut Reads) -> Result<(), Halt>
     ensures { Gives (run (alive x.now) (contents model.now) reads.old) result reads.new }
 {
     let Some(o) = object_in(x) else {
@@ -40,14 +42,14 @@ pub fn concat(
     mut form: String,
     model: &Model,
     reads: &mut Reads,
-) -> Result<Value, Stop>
+) -> Result<Value, Halt>
     requires { IsBounded model.now.metamodel value.now }
     ensures { Gives (run (concat model.now.metamodel value.now (string_bytes form)) (contents model.now) reads.old) result reads.new }
 {
     if push_form(&mut form, value, model.metamodel())? {
         Ok(Value::One(Scalar::Text(Text::from_string(form))))
     } else {
-        Err(Stop::Fault(Fault::TextTooLong))
+        Err(Halt::Fault(Fault::TextTooLong))
     }
 }
 
@@ -58,13 +60,13 @@ pub fn begins(
     form: String,
     model: &Model,
     reads: &mut Reads,
-) -> Result<Value, Stop>
+) -> Result<Value, Halt>
     requires { IsBounded model.now.metamodel value.now }
     ensures { Gives (run (begins model.now.metamodel value.now (string_bytes form)) (contents model.now) reads.old) result reads.new }
 {
     match text_form(alloc, value, model.metamodel())? {
-        Some(start) => Ok(Value::One(Scalar::Bool(starts_with(&form, &start)))),
-        None => Err(Stop::Fault(Fault::TextTooLong)),
+        Some(start) => Ok(flag(starts_with(&form, &start))),
+        None => Err(Halt::Fault(Fault::TextTooLong)),
     }
 }
 

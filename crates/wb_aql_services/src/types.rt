@@ -6,7 +6,7 @@ ghost use Rattle.wb_aql_values.specs.Readings.{contents, held};
 ghost use Rattle.wb_aql_values.specs.Runs.{Gives, Leaves, run, with_read};
 
 use std::alloc::{AllocError, Global};
-use wb_aql_values::{Reads, Stop, Value, look_at_class};
+use wb_aql_values::{Halt, Reads, Value, flag, look_at_class};
 use wb_base::{Duplicate, List};
 use wb_metamodel::{ClassId, Metamodel, ObjectId};
 use wb_model::{Cell, Model, Scalar};
@@ -17,7 +17,10 @@ pub fn object_in(x: &Scalar) -> Option<ObjectId>
 {
     match x {
         Scalar::Object(o) => Some(*o),
-        _ => None,
+        Scalar::Int(_) => None,
+        Scalar::Bool(_) => None,
+        Scalar::Text(_) => None,
+        Scalar::Literal(_, _) => None,
     }
 }
 
@@ -68,7 +71,7 @@ pub fn narrowed(
     xs: List<Scalar>,
     model: &Model,
     reads: &mut Reads,
-) -> Result<List<Scalar>, Stop>
+) -> Result<List<Scalar>, Halt>
     requires { IsType model.now.metamodel asked.now }
     ensures { Gives (run (narrowed model.now.metamodel asked.now xs) (contents model.now) reads.old) result reads.new }
 {
@@ -85,7 +88,7 @@ pub fn kept(
     xs: &[Scalar],
     model: &Model,
     reads: &mut Reads,
-) -> Result<List<Scalar>, Stop>
+) -> Result<List<Scalar>, Halt>
     requires { IsType model.now.metamodel asked.now }
     ensures { Gives (run (kept model.now.metamodel asked.now xs.now) (contents model.now) reads.old) result reads.new }
 {
@@ -103,7 +106,7 @@ fn keep(
     x: &Scalar,
     model: &Model,
     reads: &mut Reads,
-) -> Result<(), Stop>
+) -> Result<(), Halt>
     requires { IsType model.now.metamodel asked.now }
     ensures { Leaves (run (keep model.now.metamodel asked.now kept.old x.now) (contents model.now) reads.old) result kept.new reads.new }
 {
@@ -122,15 +125,15 @@ pub fn is_kind_of(
     x: &Scalar,
     model: &Model,
     reads: &mut Reads,
-) -> Result<Value, Stop>
+) -> Result<Value, Halt>
     requires { IsType model.now.metamodel asked.now }
     ensures { Gives (run (tested (conforms_to model.now.metamodel asked.now) x.now) (contents model.now) reads.old) result reads.new }
 {
     let Some(o) = object_in(x) else {
-        return Ok(Value::One(Scalar::Bool(false)));
+        return Ok(flag(false));
     };
     let class = look_at_class(model, o, reads)?;
-    Ok(Value::One(Scalar::Bool(conforms_to(model.metamodel(), asked, class))))
+    Ok(flag(conforms_to(model.metamodel(), asked, class)))
 }
 
 /// `oclIsTypeOf`: is the type the object's class?
@@ -139,23 +142,23 @@ pub fn is_type_of(
     x: &Scalar,
     model: &Model,
     reads: &mut Reads,
-) -> Result<Value, Stop>
+) -> Result<Value, Halt>
     ensures { Gives (run (tested (is_exactly asked.now) x.now) (contents model.now) reads.old) result reads.new }
 {
     let Some(o) = object_in(x) else {
-        return Ok(Value::One(Scalar::Bool(false)));
+        return Ok(flag(false));
     };
     let class = look_at_class(model, o, reads)?;
-    Ok(Value::One(Scalar::Bool(is_exactly(asked, class))))
+    Ok(flag(is_exactly(asked, class)))
 }
 
 /// `oclAsType`: the object where it conforms, and else null.
-pub fn as_type(
+pub fn cast(
     asked: &Option<ClassId>,
     x: &Scalar,
     model: &Model,
     reads: &mut Reads,
-) -> Result<Value, Stop>
+) -> Result<Value, Halt>
     requires { IsType model.now.metamodel asked.now }
     ensures { Gives (run (as_type model.now.metamodel asked.now x.now) (contents model.now) reads.old) result reads.new }
 {

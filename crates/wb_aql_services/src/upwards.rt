@@ -7,7 +7,7 @@ ghost use Rattle.wb_aql_values.specs.Runs.{Gives, run};
 use crate::sequences::sequence;
 use crate::types::look_whether_of;
 use std::alloc::Global;
-use wb_aql_values::{Reads, Stop, Value};
+use wb_aql_values::{Halt, Reads, Value};
 use wb_base::List;
 use wb_metamodel::{ClassId, ObjectId};
 use wb_model::{Cell, Model, Scalar};
@@ -21,7 +21,7 @@ pub fn e_container(
     o: ObjectId,
     model: &Model,
     reads: &mut Reads,
-) -> Result<Value, Stop>
+) -> Result<Value, Halt>
     requires { IsType model.now.metamodel asked.now }
     ensures { Gives (run (e_container model.now.metamodel asked.now o) (contents model.now) reads.old) result reads.new }
 {
@@ -31,7 +31,7 @@ pub fn e_container(
     }
 }
 
-fn container(o: ObjectId, model: &Model, reads: &mut Reads) -> Result<Value, Stop>
+fn container(o: ObjectId, model: &Model, reads: &mut Reads) -> Result<Value, Halt>
     ensures { Gives (run (container o) (contents model.now) reads.old) result reads.new }
 {
     reads.note(Cell::Holder(o))?;
@@ -46,7 +46,7 @@ fn nearest(
     o: ObjectId,
     model: &Model,
     reads: &mut Reads,
-) -> Result<Value, Stop>
+) -> Result<Value, Halt>
     requires { IsType model.now.metamodel asked.now }
     ensures { Gives (run (nearest model.now.metamodel asked.now height o) (contents model.now) reads.old) result reads.new }
 {
@@ -71,7 +71,7 @@ pub fn ancestors(
     o: ObjectId,
     model: &Model,
     reads: &mut Reads,
-) -> Result<Value, Stop>
+) -> Result<Value, Halt>
     requires { IsType model.now.metamodel asked.now }
     ensures { Gives (run (ancestors model.now.metamodel asked.now o) (contents model.now) reads.old) result reads.new }
 {
@@ -84,7 +84,7 @@ fn climbed(
     o: ObjectId,
     model: &Model,
     reads: &mut Reads,
-) -> Result<List<ObjectId>, Stop>
+) -> Result<List<ObjectId>, Halt>
     ensures { Gives (run (climbed height [] o) (contents model.now) reads.old) result reads.new }
 {
     let mut met = List::new(alloc);

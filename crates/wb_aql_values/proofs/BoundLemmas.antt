@@ -82,8 +82,8 @@ module _ (mm : Metamodel) where
 
   short_within : (kind : Sort) (xs : List Scalar) (b : Bool) → nat_le (length xs) 65536 ≡ b → list_all (is_bounded mm) xs ≡ true → Differ kind xs
       → IfOk {E = Fault} (if b then Ok xs else Err TooLong) (λ ys. IsBounded mm (collection kind ys))
-  short_within sort.Sequence xs true e h d = record { few = leb-true _ _ e; bounded = h }
-  short_within sort.OrderedSet xs true e h d = (record { few = leb-true _ _ e; bounded = h }, d)
+  short_within sort.Sequence xs true e h d = record { not_long = leb-true _ _ e; bounded = h }
+  short_within sort.OrderedSet xs true e h d = (record { not_long = leb-true _ _ e; bounded = h }, d)
   short_within kind xs false e h d = tt
 
   -- what is put together is within the bounds of a value
@@ -96,8 +96,8 @@ module _ (mm : Metamodel) where
 
 -- an empty collection
 pub empty_within : (mm : Metamodel) (kind : Sort) → IsBounded mm (collection kind [])
-empty_within mm sort.Sequence = record { few = omega arith; bounded = refl }
-empty_within mm sort.OrderedSet = (record { few = omega arith; bounded = refl }, refl)
+empty_within mm sort.Sequence = record { not_long = omega arith; bounded = refl }
+empty_within mm sort.OrderedSet = (record { not_long = omega arith; bounded = refl }, refl)
 
 -- ---- members that are left out
 
@@ -117,8 +117,8 @@ module _ (mm : Metamodel) where
       let fits = list_all (is_bounded mm) in
       let p = and_parts (fits ks) (fits (x ∷ xs)) (sym (list_all-append (is_bounded mm) ks (x ∷ xs)) ∙ h.bounded) in
       let q = and_parts (is_bounded mm x) (fits xs) p.1 in
-      let few = h.few in
-      record { few = omega (arith, few, length-append ks (x ∷ xs), length-append ks xs); bounded = list_all-append (is_bounded mm) ks xs ∙ and_from (fits ks) (fits xs) p.0 q.1 }
+      let not_long = h.not_long in
+      record { not_long = omega (arith, not_long, length-append ks (x ∷ xs), length-append ks xs); bounded = list_all-append (is_bounded mm) ks xs ∙ and_from (fits ks) (fits xs) p.0 q.1 }
 
   pub within_less : (kind : Sort) (ks xs : List Scalar) (x : Scalar) → IsBounded mm (collection kind (ks ++ x ∷ xs)) → IsBounded mm (collection kind (ks ++ xs))
   within_less sort.Sequence ks xs x h = are_less ks xs x h

@@ -14,7 +14,7 @@ use Rattle.wb_aql_values.specs.declared.values.Value.{Value}
 use Rattle.wb_aql_values.specs.declared.values.Value.TheVariants.{Null, One, Sequence, OrderedSet}
 use Rattle.wb_aql_values.specs.Values.{members, collection, has, with_member, with_members, short, put}
 use Rattle.wb_aql_values.specs.Bounds.{IsBounded, is_bounded}
-use Rattle.wb_aql_values.specs.declared.faults.Stop.{Stop}
+use Rattle.wb_aql_values.specs.declared.faults.Halt.{Halt}
 use Rattle.wb_aql_values.specs.Runs.{Became}
 use Rattle.wb_aql_values.proofs.Sublists.{and_both, both_true, or_neither, both_false, not_true, not_false}
 
@@ -73,9 +73,9 @@ module _ (mm : Metamodel) where
   unfolding HasSort
   is_short kind xs ys h e = one kind (nat_le (length xs) 65536) refl h e
     where
-      one : (kind : Sort) (few : Bool) → nat_le (length xs) 65536 ≡ few → HasSort kind xs → ◌≡◌ {A = Result (List Scalar) Fault} (if few then Ok xs else Err TooLong) (Ok ys) → IsBounded mm (collection kind ys)
-      one sort.Sequence true f h e = subst (λ zs. IsBounded mm (collection sort.Sequence zs)) (let g : xs ≡ ys = cc in g) (record { few = le_of_test _ _ f; bounded = h })
-      one sort.OrderedSet true f h e = subst (λ zs. IsBounded mm (collection sort.OrderedSet zs)) (let g : xs ≡ ys = cc in g) (record { few = le_of_test _ _ f; bounded = h.0 }, h.1)
+      one : (kind : Sort) (short_enough : Bool) → nat_le (length xs) 65536 ≡ short_enough → HasSort kind xs → ◌≡◌ {A = Result (List Scalar) Fault} (if short_enough then Ok xs else Err TooLong) (Ok ys) → IsBounded mm (collection kind ys)
+      one sort.Sequence true f h e = subst (λ zs. IsBounded mm (collection sort.Sequence zs)) (let g : xs ≡ ys = cc in g) (record { not_long = le_of_test _ _ f; bounded = h })
+      one sort.OrderedSet true f h e = subst (λ zs. IsBounded mm (collection sort.OrderedSet zs)) (let g : xs ≡ ys = cc in g) (record { not_long = le_of_test _ _ f; bounded = h.0 }, h.1)
       one kind false f h e = absurd (let g : ⊥ = cc in g)
 
   -- a value whose members are within their bounds
@@ -86,11 +86,11 @@ module _ (mm : Metamodel) where
   pub bounded_put : (kind : Sort) (xs ys : List Scalar) (v : Value) → IsBounded mm (collection kind xs) → IsBounded mm v → put kind xs v ≡ Ok ys → IsBounded mm (collection kind ys)
   bounded_put kind xs ys v h b e = put_bounded kind xs ys v h (bounded_members v b) e
 
-  pub became_bounded : (kind other : Sort) (xs ys : List Scalar) (v : Value) (result : Result Unit Stop) → IsBounded mm (collection kind xs) → IsBounded mm v
+  pub became_bounded : (kind other : Sort) (xs ys : List Scalar) (v : Value) (result : Result Unit Halt) → IsBounded mm (collection kind xs) → IsBounded mm v
       → Became result (put kind xs v) ys → OnOk result (other ≡ kind) → OnOk result (IsBounded mm (collection other ys))
   became_bounded kind other xs ys v (Ok _) h b e s = subst (λ k. IsBounded mm (collection k ys)) (sym s) (bounded_put kind xs ys v h b e)
   became_bounded kind other xs ys v (Err stop) h b e s = tt
 
   pub empty_bounded : (kind : Sort) → IsBounded mm (collection kind [])
-  empty_bounded sort.Sequence = record { few = omega arith; bounded = refl }
-  empty_bounded sort.OrderedSet = (record { few = omega arith; bounded = refl }, refl)
+  empty_bounded sort.Sequence = record { not_long = omega arith; bounded = refl }
+  empty_bounded sort.OrderedSet = (record { not_long = omega arith; bounded = refl }, refl)

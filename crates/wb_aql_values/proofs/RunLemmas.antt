@@ -7,8 +7,8 @@ use Rattle.wb_store.specs.declared.scalars.Cell.TheVariants.{Kind}
 use Rattle.wb_store.specs.Contents.{Contents, kind}
 use Rattle.wb_aql_values.specs.declared.faults.Fault.{Fault}
 use Rattle.wb_aql_values.specs.declared.faults.Fault.TheVariants.{DeadObject}
-use Rattle.wb_aql_values.specs.declared.faults.Stop.{Stop}
-use Rattle.wb_aql_values.specs.declared.faults.Stop.TheVariants as s
+use Rattle.wb_aql_values.specs.declared.faults.Halt.{Halt}
+use Rattle.wb_aql_values.specs.declared.faults.Halt.TheVariants as s
 use Rattle.wb_aql_values.specs.Readings.{Content, contents, Reading, done, fail, look, ◌>>=◌, held, given, live, each, class_of}
 use Rattle.wb_aql_values.specs.Runs.{Ran, run, with_read, Gives, Leaves, Became}
 
@@ -33,12 +33,12 @@ module _ {A B : Type 0} (next : A → Reading B) (m : (c : Cell) → Content c) 
   faulted r old fault reads e = goes_on r old ∙ ap (λ (ran : Ran A). onward next m ran.gave ran.reads) e
 
   -- what stops the first stops both
-  pub stopped : (r : Reading A) (old : List Cell) (stop : Stop) (reads : List Cell) → Gives (run r m old) (Err stop) reads → Gives (run (r >>= next) m old) (Err stop) reads
+  pub stopped : (r : Reading A) (old : List Cell) (stop : Halt) (reads : List Cell) → Gives (run r m old) (Err stop) reads → Gives (run (r >>= next) m old) (Err stop) reads
   stopped r old (s.Fault fault) reads h = faulted r old fault reads h
   stopped r old s.NoMemory reads h = tt
 
   -- after the first gave a value, both give what the second gives
-  pub gives_next : (r : Reading A) (old : List Cell) (x : A) (reads : List Cell) (result : Result B Stop) (new : List Cell)
+  pub gives_next : (r : Reading A) (old : List Cell) (x : A) (reads : List Cell) (result : Result B Halt) (new : List Cell)
       → run r m old ≡ record { gave = Ok x; reads = reads } → Gives (run (next x) m reads) result new → Gives (run (r >>= next) m old) result new
   gives_next r old x reads result new e h = subst (λ ran. Gives ran result new) (sym (followed r old x reads e)) h
 
@@ -67,25 +67,25 @@ run_held m c old = refl
 
 module _ {B : Type 0} (ran : Ran B) where
   -- a stop that is passed on
-  pub returned : (result : Result B Stop) (stop : Stop) (reads : List Cell) → IsErrAnd result (λ other. other ≡ stop) → Gives ran (Err stop) reads → Gives ran result reads
+  pub returned : (result : Result B Halt) (stop : Halt) (reads : List Cell) → IsErrAnd result (λ other. other ≡ stop) → Gives ran (Err stop) reads → Gives ran result reads
   returned (Ok x) stop reads h g = absurd h
-  returned (Err other) stop reads h g = subst (λ (y : Stop). Gives ran (Err y) reads) (sym h) g
+  returned (Err other) stop reads h g = subst (λ (y : Halt). Gives ran (Err y) reads) (sym h) g
 
   -- a stop leaves nothing in place
-  pub nothing_left : (C : Type 0) (stop : Stop) (x : B) (reads : List Cell) → Leaves {B = C} ran (Err stop) x reads → Gives ran (Err stop) reads
+  pub nothing_left : (C : Type 0) (stop : Halt) (x : B) (reads : List Cell) → Leaves {B = C} ran (Err stop) x reads → Gives ran (Err stop) reads
   nothing_left C (s.Fault fault) x reads h = h
   nothing_left C s.NoMemory x reads h = tt
 
-  pub left_stop : (C : Type 0) (stop : Stop) (x : B) (reads : List Cell) → Gives ran (Err stop) reads → Leaves {B = C} ran (Err stop) x reads
+  pub left_stop : (C : Type 0) (stop : Halt) (x : B) (reads : List Cell) → Gives ran (Err stop) reads → Leaves {B = C} ran (Err stop) x reads
   left_stop C (s.Fault fault) x reads h = h
   left_stop C s.NoMemory x reads h = tt
 
-  pub left_returned : (C : Type 0) (result : Result C Stop) (stop : Stop) (x : B) (reads : List Cell) → IsErrAnd result (λ other. other ≡ stop) → Gives ran (Err stop) reads → Leaves ran result x reads
+  pub left_returned : (C : Type 0) (result : Result C Halt) (stop : Halt) (x : B) (reads : List Cell) → IsErrAnd result (λ other. other ≡ stop) → Gives ran (Err stop) reads → Leaves ran result x reads
   left_returned C (Ok y) stop x reads h g = absurd h
-  left_returned C (Err other) stop x reads h g = subst (λ (y : Stop). Leaves {B = C} ran (Err y) x reads) (sym h) (left_stop C stop x reads g)
+  left_returned C (Err other) stop x reads h g = subst (λ (y : Halt). Leaves {B = C} ran (Err y) x reads) (sym h) (left_stop C stop x reads g)
 
 -- what was put together is left in place
-pub became_left : (m : (c : Cell) → Content c) (expected : Result (List Scalar) Fault) (result : Result Unit Stop) (xs : List Scalar) (ran : Ran (List Scalar)) (reads : List Cell)
+pub became_left : (m : (c : Cell) → Content c) (expected : Result (List Scalar) Fault) (result : Result Unit Halt) (xs : List Scalar) (ran : Ran (List Scalar)) (reads : List Cell)
     → Became result expected xs → ran ≡ run (given expected) m reads → Leaves ran result xs reads
 unfolding run
 became_left m expected (Ok y) xs ran reads h e = e ∙ ap (λ r. run (given r) m reads) h
@@ -106,7 +106,7 @@ module _ {A B : Type 0} (step : B → A → Reading B) (m : (c : Cell) → Conte
   each_next b x xs old c reads e = followed (λ d. each step d xs) m (step b x) old c reads e
 
   -- what stops one step stops all
-  pub each_stopped : (b : B) (x : A) (xs : List A) (old : List Cell) (stop : Stop) (reads : List Cell) → Gives (run (step b x) m old) (Err stop) reads → Gives (run (each step b (x ∷ xs)) m old) (Err stop) reads
+  pub each_stopped : (b : B) (x : A) (xs : List A) (old : List Cell) (stop : Halt) (reads : List Cell) → Gives (run (step b x) m old) (Err stop) reads → Gives (run (each step b (x ∷ xs)) m old) (Err stop) reads
   unfolding each
   each_stopped b x xs old stop reads h = stopped (λ d. each step d xs) m (step b x) old stop reads h
 
@@ -116,7 +116,7 @@ module _ {A B : Type 0} (step : B → A → Reading B) (m : (c : Cell) → Conte
       → run (step b x) m old ≡ record { gave = Ok c; reads = reads } → run (each step b ys) m old ≡ all → run (each step c xs) m reads ≡ all
   loop_next b ys x xs old c reads all here e h = sym (each_next b x xs old c reads e) ∙ (ap (λ zs. run (each step b zs) m old) (sym here) ∙ h)
 
-  pub loop_stopped : (b : B) (ys : List A) (x : A) (xs : List A) (old : List Cell) (stop : Stop) (reads : List Cell) (all : Ran B) → ys ≡ x ∷ xs
+  pub loop_stopped : (b : B) (ys : List A) (x : A) (xs : List A) (old : List Cell) (stop : Halt) (reads : List Cell) (all : Ran B) → ys ≡ x ∷ xs
       → Gives (run (step b x) m old) (Err stop) reads → run (each step b ys) m old ≡ all → Gives all (Err stop) reads
   loop_stopped b ys x xs old stop reads all here e h =
       subst (λ ran. Gives ran (Err stop) reads) (ap (λ zs. run (each step b zs) m old) (sym here) ∙ h) (each_stopped b x xs old stop reads e)

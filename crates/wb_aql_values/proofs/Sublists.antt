@@ -79,11 +79,11 @@ differ_in_sublist (kept {x} s) h =
 differ_in_sublist (left_out s) h = differ_in_sublist s (and_both _ _ h).1
 
 pub bounded_sublist : (mm : Metamodel) {xs ys : List Scalar} → IsSublist xs ys → AreBounded mm ys → AreBounded mm xs
-bounded_sublist mm s h = let e = not_longer s in let f = h.few in record { few = omega arith; bounded = all_of_sublist (is_bounded mm) s h.bounded }
+bounded_sublist mm s h = let e = not_longer s in let f = h.not_long in record { not_long = omega arith; bounded = all_of_sublist (is_bounded mm) s h.bounded }
 
 -- what is left of a collection is within the bounds of its sort
 pub bounded_kept : (mm : Metamodel) (v : Value) (xs : List Scalar) → IsSublist xs (members v) → IsBounded mm v → IsBounded mm (collection (sort_of v) xs)
-bounded_kept mm Null xs s h = (bounded_sublist mm s (record { few = omega arith; bounded = refl }), differ_in_sublist s refl)
-bounded_kept mm (One x) xs s h = (bounded_sublist mm s (record { few = omega arith; bounded = both_true _ _ h refl }), differ_in_sublist s refl)
+bounded_kept mm Null xs s h = (bounded_sublist mm s (record { not_long = omega arith; bounded = refl }), differ_in_sublist s refl)
+bounded_kept mm (One x) xs s h = (bounded_sublist mm s (record { not_long = omega arith; bounded = both_true _ _ h refl }), differ_in_sublist s refl)
 bounded_kept mm (Sequence ys) xs s h = bounded_sublist mm s h
 bounded_kept mm (OrderedSet ys) xs s h = (bounded_sublist mm s h.0, differ_in_sublist s h.1)

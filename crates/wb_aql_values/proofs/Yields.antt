@@ -6,7 +6,7 @@ use Rattle.wb_metamodel.specs.Metamodel.{Metamodel}
 use Rattle.wb_store.specs.declared.scalars.Cell.{Cell}
 use Rattle.wb_store.specs.declared.scalars.Scalar.{Scalar}
 use Rattle.wb_aql_values.specs.declared.faults.Fault.{Fault}
-use Rattle.wb_aql_values.specs.declared.faults.Stop.{Stop}
+use Rattle.wb_aql_values.specs.declared.faults.Halt.{Halt}
 use Rattle.wb_aql_values.specs.declared.values.Sort.{Sort}
 use Rattle.wb_aql_values.specs.declared.values.Sort.TheVariants as sort
 use Rattle.wb_aql_values.specs.declared.values.Value.{Value}
@@ -59,7 +59,7 @@ module _ (AreHeld : (c : Cell) → Content c → Type 0) where
   of_given P (Err fault) h = tt
 
   -- what a call gives that follows the run
-  pub gives_bounded : {A : Type 0} (P : A → Type 0) (r : Reading A) (m : (c : Cell) → Content c) (old : List Cell) (result : Result A Stop) (reads : List Cell) →
+  pub gives_bounded : {A : Type 0} (P : A → Type 0) (r : Reading A) (m : (c : Cell) → Content c) (old : List Cell) (result : Result A Halt) (reads : List Cell) →
       ((c : Cell) → AreHeld c (m c)) → Yields P r → Gives (run r m old) result reads → IfOk result P
   gives_bounded P r m old (Ok v) reads held h e = of_run P r m old v reads held h e
   gives_bounded P r m old (Err stop) reads held h e = tt

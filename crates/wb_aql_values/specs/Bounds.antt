@@ -18,7 +18,7 @@ is_bounded mm (Object o) = true
 
 -- a list of at most 65,536 members that are within their bounds
 pub record AreBounded (mm : Metamodel) (xs : List Scalar) : Type 0 where
-  pub few : length xs ≤ 65536
+  pub not_long : length xs ≤ 65536
   pub bounded : list_all (is_bounded mm) xs ≡ true
 
 -- an ordered set, moreover, has no member twice

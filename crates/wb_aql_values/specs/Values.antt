@@ -3,6 +3,7 @@ use Rattle.std.specs.Prelude.{Bool, true, false, nat_le, List, [], ◌∷◌, �
 use Rattle.std.specs.List.{list_any}
 use Rattle.std.specs.Cmp.Lexicographic.{pointwise}
 use Rattle.wb_store.specs.declared.scalars.Scalar.{Scalar}
+use Rattle.wb_store.specs.declared.scalars.Scalar.TheVariants.{Bool as Boolean}
 use Rattle.wb_store.specs.Scalars.{same}
 use Rattle.wb_aql_values.specs.declared.faults.Fault.{Fault}
 use Rattle.wb_aql_values.specs.declared.faults.Fault.TheVariants.{TooLong}
@@ -28,8 +29,14 @@ members (OrderedSet xs) = xs
 
 -- the sort of a collection; where a collection is wanted, a scalar is an ordered set of one, and null an empty one
 abbrev pub sort_of : Value → Sort
+sort_of Null = sort.OrderedSet
+sort_of (One x) = sort.OrderedSet
 sort_of (Sequence xs) = sort.Sequence
-sort_of _ = sort.OrderedSet
+sort_of (OrderedSet xs) = sort.OrderedSet
+
+-- a Bool as a value
+abbrev pub flag : Bool → Value
+flag b = One (Boolean b)
 
 -- the collection of a sort that has these members
 abbrev pub collection : Sort → List Scalar → Value

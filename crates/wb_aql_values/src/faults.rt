@@ -1,10 +1,10 @@
 ghost use Rattle.std.specs.Prelude.{◌≡◌};
-ghost use Rattle.wb_aql_values.specs.declared.faults.Stop.TheVariants.{NoMemory};
+ghost use Rattle.wb_aql_values.specs.declared.faults.Halt.TheVariants.{NoMemory};
 
 use std::alloc::{AllocError, AllocFailed};
 
 /// What an expression has in place of a value.
-#[derive(Clone, Copy, Debug, PartialEq, Eq)]
+#[derive(Clone, Copy, Debug)]
 pub enum Fault {
     NotAnObject,
     /// The class has no feature of that name.
@@ -22,24 +22,24 @@ pub enum Fault {
 }
 
 /// Why an evaluation gives no value.
-#[derive(Clone, Copy, Debug, PartialEq, Eq)]
-pub enum Stop {
+#[derive(Clone, Copy)]
+pub enum Halt {
     Fault(Fault),
     NoMemory,
 }
 
-impl From<AllocError> for Stop {
+impl From<AllocError> for Halt {
     ghost from_gives = { λ _ e. e ≡ NoMemory };
 
-    fn from(_error: AllocError) -> Stop {
-        Stop::NoMemory
+    fn from(_error: AllocError) -> Halt {
+        Halt::NoMemory
     }
 }
 
-impl<T: Drop> From<AllocFailed<T>> for Stop {
+impl<T: Drop> From<AllocFailed<T>> for Halt {
     ghost from_gives = { λ _ e. e ≡ NoMemory };
 
-    fn from(_error: AllocFailed<T>) -> Stop {
-        Stop::NoMemory
+    fn from(_error: AllocFailed<T>) -> Halt {
+        Halt::NoMemory
     }
 }

@@ -1,8 +1,8 @@
 ghost use Rattle.std.specs.Prelude.{◌≡◌, [], length, IfOk, OnOk};
-ghost use Rattle.wb_aql_values.specs.Values.{collection, members, put, with_member, with_members};
+ghost use Rattle.wb_aql_values.specs.Values.{collection, put, with_member, with_members};
 ghost use Rattle.wb_aql_values.specs.Runs.{Became};
 
-use crate::faults::{Fault, Stop};
+use crate::faults::{Fault, Halt};
 use crate::values::{Sort, Value};
 use indexmap::IndexSet;
 use std::alloc::{AllocError, Global};
@@ -14,7 +14,6 @@ use wb_model::Scalar;
 const MAX_MEMBERS: usize = 65536;
 
 /// Members that are being put together into a collection of one sort.
-#[derive(Drop)]
 pub struct Gathered {
     members: Members,
 }
@@ -23,6 +22,12 @@ pub struct Gathered {
 enum Members {
     Sequence(Vec<Scalar>),
     OrderedSet(IndexSet<Scalar>),
+}
+
+impl Drop for Gathered {
+    fn drop(self) {
+        let Gathered { members: _members } = self;
+    }
 }
 
 impl Model for Gathered {
@@ -51,31 +56,19 @@ impl Gathered {
 
     /// Puts a value last: of a collection each member, of null none.
     #[tactic(auto, unfolding(crate::specs::Values::put))]
-    pub fn put(&mut self, value: Value) -> Result<(), Stop>
+    pub fn put(&mut self, value: Value) -> Result<(), Halt>
         ensures sort { OnOk result (self.new.0 ≡ self.old.0) }
         ensures put { Became result (put self.old.0 self.old.1 value) self.new.1 }
     {
-        self.put_unchecked(value)?;
+        value.put_into(self)?;
         if self.len() > MAX_MEMBERS {
-            return Err(Stop::Fault(Fault::TooLong));
+            return Err(Halt::Fault(Fault::TooLong));
         }
         Ok(())
     }
 
     #[tactic(auto, unfolding(crate::specs::Values::with_members))]
-    fn put_unchecked(&mut self, value: Value) -> Result<(), AllocError>
-        ensures { OnOk result (self.new ≡ (self.old.0, with_members self.old.0 self.old.1 (members value))) }
-    {
-        match value {
-            Value::Null => Ok(()),
-            Value::One(x) => self.put_one(x),
-            Value::Sequence(xs) => self.put_all(xs),
-            Value::OrderedSet(xs) => self.put_all(xs),
-        }
-    }
-
-    #[tactic(auto, unfolding(crate::specs::Values::with_members))]
-    fn put_all(&mut self, xs: List<Scalar>) -> Result<(), AllocError>
+    pub(crate) fn put_all(&mut self, xs: List<Scalar>) -> Result<(), AllocError>
         ensures { OnOk result (self.new ≡ (self.old.0, with_members self.old.0 self.old.1 xs)) }
     {
         for x in xs.into_vec() {
@@ -85,7 +78,7 @@ impl Gathered {
     }
 
     // An ordered set keeps the first of equal members.
-    fn put_one(&mut self, x: Scalar) -> Result<(), AllocError>
+    pub(crate) fn put_one(&mut self, x: Scalar) -> Result<(), AllocError>
         ensures { OnOk result (self.new ≡ (self.old.0, with_member self.old.0 self.old.1 x)) }
     {
         match &mut self.members {
@@ -110,7 +103,8 @@ impl Gathered {
     pub fn into_value(self, alloc: Global) -> Result<Value, AllocError>
         ensures { IfOk result (λ value. value ≡ collection self.0 self.1) }
     {
-        match self.members {
+        let Gathered { members } = self;
+        match members {
             Members::Sequence(members) => Ok(Value::Sequence(List::from_vec(members))),
             Members::OrderedSet(members) => {
                 let members = members.into_iter().collect(alloc)?;

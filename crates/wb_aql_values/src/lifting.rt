@@ -7,7 +7,7 @@ ghost use Rattle.wb_aql_values.specs.Bounds.{IsBounded, is_bounded};
 ghost use Rattle.wb_aql_values.specs.Readings.{Reading, contents, gather, lifted, of_each};
 ghost use Rattle.wb_aql_values.specs.Runs.{Gives, Leaves, run};
 
-use crate::faults::Stop;
+use crate::faults::Halt;
 use crate::gathered::Gathered;
 use crate::reads::Reads;
 use crate::values::{Sort, Value};
@@ -30,12 +30,12 @@ pub trait OnScalars {
         x: &Scalar,
         model: &Model,
         reads: &mut Reads,
-    ) -> Result<Value, Stop>
+    ) -> Result<Value, Halt>
         requires needs { Needs self.now model.now.metamodel }
         requires bounded { is_bounded model.now.metamodel x.now ≡ true }
         ensures { Gives (run (on_scalar self.now model.now.metamodel x.now) (contents model.now) reads.old) result reads.new };
 
-    fn of_null(&self, alloc: Global, model: &Model, reads: &mut Reads) -> Result<Value, Stop>
+    fn of_null(&self, alloc: Global, model: &Model, reads: &mut Reads) -> Result<Value, Halt>
         requires { Needs self.now model.now.metamodel }
         ensures { Gives (run (on_null self.now model.now.metamodel) (contents model.now) reads.old) result reads.new };
 }
@@ -47,7 +47,7 @@ pub fn lift<F: OnScalars>(
     value: &Value,
     model: &Model,
     reads: &mut Reads,
-) -> Result<Value, Stop>
+) -> Result<Value, Halt>
     requires needs { F.Needs function.now model.now.metamodel }
     requires bounded { IsBounded model.now.metamodel value.now }
     ensures { Gives (run (lifted (F.on_null function.now model.now.metamodel) (F.on_scalar function.now model.now.metamodel) value.now) (contents model.now) reads.old) result reads.new }
@@ -79,7 +79,7 @@ fn of_each<F: OnScalars>(
     xs: &[Scalar],
     model: &Model,
     reads: &mut Reads,
-) -> Result<Value, Stop>
+) -> Result<Value, Halt>
     requires needs { F.Needs function.now model.now.metamodel }
     requires bounded { list_all (is_bounded model.now.metamodel) xs.now ≡ true }
     ensures { Gives (run (of_each sort (F.on_scalar function.now model.now.metamodel) xs.now) (contents model.now) reads.old) result reads.new }
@@ -99,7 +99,7 @@ fn gather<F: OnScalars>(
     x: &Scalar,
     model: &Model,
     reads: &mut Reads,
-) -> Result<(), Stop>
+) -> Result<(), Halt>
     requires needs { F.Needs function.now model.now.metamodel }
     requires bounded { is_bounded model.now.metamodel x.now ≡ true }
     ensures sort { OnOk result (gathered.new.0 ≡ gathered.old.0) }

@@ -4,13 +4,18 @@ ghost use Rattle.wb_aql_values.specs.Runs.{with_read};
 use indexmap::IndexSet;
 use std::alloc::{AllocError, Global};
 use std::marker::Model;
-use wb_base::List;
+use wb_base::{Duplicate, List};
 use wb_model::Cell;
 
 /// The cells that were read, without repeats, in the order of first reading.
-#[derive(Drop)]
 pub struct Reads {
     cells: IndexSet<Cell>,
+}
+
+impl Drop for Reads {
+    fn drop(self) {
+        let Reads { cells: _cells } = self;
+    }
 }
 
 impl Model for Reads {
@@ -52,5 +57,13 @@ impl Reads {
         ensures { IfOk result (λ cells. cells ≡ self.now) }
     {
         Ok(List::from_vec(self.cells.as_slice().to_vec(alloc)?))
+    }
+}
+
+impl Duplicate for Reads {
+    fn copy(&self, _alloc: Global) -> Result<Reads, AllocError> {
+        Ok(Reads {
+            cells: self.cells.clone()?,
+        })
     }
 }

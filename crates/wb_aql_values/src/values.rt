@@ -1,13 +1,13 @@
-ghost use Rattle.std.specs.Prelude.{◌≡◌};
-ghost use Rattle.wb_aql_values.specs.Values.{same_value, members, sort_of};
+ghost use Rattle.std.specs.Prelude.{◌≡◌, OnOk};
+ghost use Rattle.wb_aql_values.specs.Values.{collection, flag, members, same_value, sort_of, with_members};
 
 use crate::faults::Fault;
+use crate::gathered::Gathered;
 use std::alloc::{AllocError, Global};
 use wb_base::{Duplicate, List};
 use wb_model::Scalar;
 
 /// What an expression gives.
-#[derive(Drop)]
 pub enum Value {
     Null,
     One(Scalar),
@@ -16,8 +16,19 @@ pub enum Value {
     OrderedSet(List<Scalar>),
 }
 
+impl Drop for Value {
+    fn drop(self) {
+        match self {
+            Value::Null => {}
+            Value::One(_x) => {}
+            Value::Sequence(_xs) => {}
+            Value::OrderedSet(_xs) => {}
+        }
+    }
+}
+
 /// The sorts of collection.
-#[derive(Clone, Copy, Debug, PartialEq, Eq)]
+#[derive(Clone, Copy)]
 pub enum Sort {
     Sequence,
     OrderedSet,
@@ -28,6 +39,23 @@ pub enum Sort {
 pub enum Answer {
     Value(Value),
     Fault(Fault),
+}
+
+/// A Bool as a value.
+pub fn flag(b: bool) -> Value
+    ensures { result ≡ flag b }
+{
+    Value::One(Scalar::Bool(b))
+}
+
+/// The collection of a sort that has these members.
+pub fn collection(sort: Sort, members: List<Scalar>) -> Value
+    ensures { result ≡ collection sort members }
+{
+    match sort {
+        Sort::Sequence => Value::Sequence(members),
+        Sort::OrderedSet => Value::OrderedSet(members),
+    }
 }
 
 /// Are two values equal, as the operator `=` compares them?
@@ -62,7 +90,22 @@ impl Value {
     {
         match self {
             Value::Sequence(_) => Sort::Sequence,
-            _ => Sort::OrderedSet,
+            Value::Null => Sort::OrderedSet,
+            Value::One(_) => Sort::OrderedSet,
+            Value::OrderedSet(_) => Sort::OrderedSet,
+        }
+    }
+
+    // Its members are put last, however many there are then.
+    #[tactic(auto, unfolding(crate::specs::Values::with_members))]
+    pub(crate) fn put_into(self, gathered: &mut Gathered) -> Result<(), AllocError>
+        ensures { OnOk result (gathered.new ≡ (gathered.old.0, with_members gathered.old.0 gathered.old.1 (members self))) }
+    {
+        match self {
+            Value::Null => Ok(()),
+            Value::One(x) => gathered.put_one(x),
+            Value::Sequence(xs) => gathered.put_all(xs),
+            Value::OrderedSet(xs) => gathered.put_all(xs),
         }
     }
 }

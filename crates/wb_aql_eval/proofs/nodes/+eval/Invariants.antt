@@ -19,7 +19,10 @@ abbrev pub decreases-eval_unary : goal.decreases-eval_unary
 decreases-eval_unary l = 16 * weight (tree_of l.operand.now) + 1
 
 abbrev pub decreases-eval_binary : goal.decreases-eval_binary
-decreases-eval_binary l = 16 * (weight (tree_of l.left.now) + weight (tree_of l.right.now)) + 1
+decreases-eval_binary l = 16 * (weight (tree_of l.left.now) + weight (tree_of l.right.now)) + 2
+
+abbrev pub decreases-eval_right : goal.decreases-eval_right
+decreases-eval_right l = 16 * weight (tree_of l.right.now) + 1
 
 abbrev pub decreases-eval_if : goal.decreases-eval_if
 decreases-eval_if l = 16 * (weight (tree_of l.condition.now) + (weight (tree_of l.yes.now) + weight (tree_of l.no.now))) + 1
@@ -67,27 +70,27 @@ decreases-eval_member l = 16 * weight (tree_of l.body.now) + 1
 abbrev pub invariant-eval_elements-loop-element : goal.invariant-eval_elements-loop-element
 invariant-eval_elements-loop-element l = record {
   sort : l.gathered.0 ≡ sort_named l.fn.kind;
-  same : run (collected l.model.metamodel l.gathered.0 l.gathered.1 (trees_in (drop l.element-index l.element-items)) (values_of l.scope)) (contents l.model) l.reads
-      ≡ run (collected l.model.metamodel l.initial.gathered.0 l.initial.gathered.1 (trees_in l.element-items) (values_of l.scope)) (contents l.model) l.initial.reads;
-  bounded : IsBounded l.model.metamodel (collection l.gathered.0 l.gathered.1);
+  same : run (collected l.context.model.now.metamodel l.gathered.0 l.gathered.1 (trees_in (drop l.element-index l.element-items)) (values_of l.context.scope)) (contents l.context.model.now) l.reads
+      ≡ run (collected l.context.model.now.metamodel l.initial.gathered.0 l.initial.gathered.1 (trees_in l.element-items) (values_of l.context.scope)) (contents l.context.model.now) l.initial.reads;
+  bounded : IsBounded l.context.model.now.metamodel (collection l.gathered.0 l.gathered.1);
 }
 
 abbrev pub invariant-eval_collected-loop-member : goal.invariant-eval_collected-loop-member
 invariant-eval_collected-loop-member l = record {
   sort : l.gathered.0 ≡ sort_of l.receiver;
-  same : run (each (gather l.gathered.0 (of_member l.model.metamodel (tree_of l.body) l.variable (values_of l.scope))) l.gathered.1 (drop l.member-index l.member-items)) (contents l.model) l.reads
-      ≡ run (each (gather l.initial.gathered.0 (of_member l.model.metamodel (tree_of l.body) l.variable (values_of l.scope))) l.initial.gathered.1 l.member-items) (contents l.model) l.initial.reads;
-  bounded : IsBounded l.model.metamodel (collection l.gathered.0 l.gathered.1);
+  same : run (each (gather l.gathered.0 (of_member l.context.model.now.metamodel (tree_of l.body) l.variable (values_of l.context.scope))) l.gathered.1 (drop l.member-index l.member-items)) (contents l.context.model.now) l.reads
+      ≡ run (each (gather l.initial.gathered.0 (of_member l.context.model.now.metamodel (tree_of l.body) l.variable (values_of l.context.scope))) l.initial.gathered.1 l.member-items) (contents l.context.model.now) l.initial.reads;
+  bounded : IsBounded l.context.model.now.metamodel (collection l.gathered.0 l.gathered.1);
 }
 
 abbrev pub invariant-eval_sifted-loop-member : goal.invariant-eval_sifted-loop-member
 invariant-eval_sifted-loop-member l = record {
-  same : run (each (sift (of_member l.model.metamodel (tree_of l.body) l.variable (values_of l.scope)) l.wanted) l.kept (drop l.member-index l.member-items)) (contents l.model) l.reads
-      ≡ run (each (sift (of_member l.model.metamodel (tree_of l.body) l.variable (values_of l.scope)) l.wanted) [] l.member-items) (contents l.model) l.initial.reads;
+  same : run (each (sift (of_member l.context.model.now.metamodel (tree_of l.body) l.variable (values_of l.context.scope)) l.wanted) l.kept (drop l.member-index l.member-items)) (contents l.context.model.now) l.reads
+      ≡ run (each (sift (of_member l.context.model.now.metamodel (tree_of l.body) l.variable (values_of l.context.scope)) l.wanted) [] l.member-items) (contents l.context.model.now) l.initial.reads;
   among : IsSublist l.kept (take l.member-index l.member-items);
 }
 
 abbrev pub invariant-eval_first-loop-member : goal.invariant-eval_first-loop-member
 invariant-eval_first-loop-member l =
-    run (first_that (of_member l.model.metamodel (tree_of l.body) l.variable (values_of l.scope)) l.wanted (drop l.member-index l.member-items)) (contents l.model) l.reads
-    ≡ run (first_that (of_member l.model.metamodel (tree_of l.body) l.variable (values_of l.scope)) l.wanted l.member-items) (contents l.model) l.initial.reads
+    run (first_that (of_member l.context.model.now.metamodel (tree_of l.body) l.variable (values_of l.context.scope)) l.wanted (drop l.member-index l.member-items)) (contents l.context.model.now) l.reads
+    ≡ run (first_that (of_member l.context.model.now.metamodel (tree_of l.body) l.variable (values_of l.context.scope)) l.wanted l.member-items) (contents l.context.model.now) l.initial.reads

@@ -1,17 +1,18 @@
 use Rattle.std.proofs.Common.{rules, Err, w64}
 use Rattle.std.specs.Prelude.{FitsSigned}
 use Rattle.std.proofs.lemmas.Int.{to_z-of_z}
-use Rattle.wb_aql_eval.specs.Operators.{arithmetic, integer, passing}
+use Rattle.wb_aql_eval.specs.Operators.{arithmetic, integer}
+use Rattle.wb_base.specs.Results.{◌>>=◌}
 use Rattle.wb_aql_eval.proofs.Passing.{passes, passes_not, is_returned}
 use Rattle.wb_aql_eval.proofs.operators.calculated.Goals as goal
 
 pub returns-in_err-a : goal.returns-in_err-a
 returns-in_err-a c = is_returned _ c.from_residual.result c.in_err-a.field-0.0 c.from_residual.ensures.1
-    (passes_not (integer c.args.left.now) (λ a. passing (integer c.args.right.now) (λ b. arithmetic c.args.operator a b)) c.in_err-a.field-0.0 c.in_err-a.ensures)
+    (passes_not (integer c.args.left.now) (λ a. ◌>>=◌ (integer c.args.right.now) (λ b. arithmetic c.args.operator a b)) c.in_err-a.field-0.0 c.in_err-a.ensures)
 
 pub returns-in_err-b : goal.returns-in_err-b
 returns-in_err-b c = is_returned _ c.from_residual-in_err-b.result c.in_err-b.field-0.0 c.from_residual-in_err-b.ensures.1
-    (passes (integer c.args.left.now) (λ a. passing (integer c.args.right.now) (λ b. arithmetic c.args.operator a b)) c.in_ok-a.a (Err c.in_err-b.field-0.0) c.in_ok-a.ensures (passes_not (integer c.args.right.now) (λ b. arithmetic c.args.operator c.in_ok-a.a b) c.in_err-b.field-0.0 c.in_err-b.ensures))
+    (passes (integer c.args.left.now) (λ a. ◌>>=◌ (integer c.args.right.now) (λ b. arithmetic c.args.operator a b)) c.in_ok-a.a (Err c.in_err-b.field-0.0) c.in_ok-a.ensures (passes_not (integer c.args.right.now) (λ b. arithmetic c.args.operator c.in_ok-a.a b) c.in_err-b.field-0.0 c.in_err-b.ensures))
 
 pub returns : goal.returns
 returns c =
@@ -19,4 +20,4 @@ returns c =
     let fb : FitsSigned w64 c.in_ok-b.b = search rules in
     let ea = to_z-of_z w64 c.in_ok-a.a fa in
     let eb = to_z-of_z w64 c.in_ok-b.b fb in
-    passes (integer c.args.left.now) (λ a. passing (integer c.args.right.now) (λ b. arithmetic c.args.operator a b)) c.in_ok-a.a c.arithmetic.result c.in_ok-a.ensures (passes (integer c.args.right.now) (λ b. arithmetic c.args.operator c.in_ok-a.a b) c.in_ok-b.b c.arithmetic.result c.in_ok-b.ensures (rw (ea, eb) at c.arithmetic.ensures))
+    passes (integer c.args.left.now) (λ a. ◌>>=◌ (integer c.args.right.now) (λ b. arithmetic c.args.operator a b)) c.in_ok-a.a c.arithmetic.result c.in_ok-a.ensures (passes (integer c.args.right.now) (λ b. arithmetic c.args.operator c.in_ok-a.a b) c.in_ok-b.b c.arithmetic.result c.in_ok-b.ensures (rw (ea, eb) at c.arithmetic.ensures))

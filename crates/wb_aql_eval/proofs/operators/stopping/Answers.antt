@@ -1,6 +1,7 @@
 use Rattle.std.proofs.Common.{Ok, Some, None, true, false, sym, ap, ◌∙◌, if◌then◌else◌}
 use Rattle.std.specs.Bool.{beq}
-use Rattle.wb_aql_eval.specs.Operators.{flag, truth}
+use Rattle.wb_aql_eval.specs.Operators.{truth}
+use Rattle.wb_aql_values.specs.Values.{flag}
 use Rattle.wb_aql_eval.proofs.Passing.{passes, passes_not, is_returned}
 use Rattle.wb_aql_eval.proofs.operators.stopping.Goals as goal
 

@@ -3,7 +3,6 @@ use Rattle.wb_aql_values.specs.Readings.{contents}
 use Rattle.wb_aql_values.specs.Runs.{run}
 use Rattle.wb_aql_services.specs.Navigation.{from_object}
 use Rattle.wb_aql_services.proofs.Choices.{as_given}
-use Rattle.wb_aql_services.proofs.Others.{from_other}
 use Rattle.wb_aql_services.proofs.by_dot.from_object.Goals as goal
 
 pub returns-in-EContainer : goal.returns-in-EContainer
@@ -45,9 +44,3 @@ pub returns-in-FollowingSiblings : goal.returns-in-FollowingSiblings
 unfolding from_object
 returns-in-FollowingSiblings c =
     as_given _ _ c.following.result c.following.new.reads (ap (λ s. run (from_object c.args.model.now.metamodel s c.args.asked.now c.args.o c.args.class) (contents c.args.model.now) c.args.reads.now) c.in-FollowingSiblings.is) c.following.ensures
-
-pub returns-in_default : goal.returns-in_default
-unfolding run
-returns-in_default c =
-    ap (λ r. run r (contents c.args.model.now) c.args.reads.now) (from_other c.args.model.now.metamodel c.args.service c.args.asked.now c.args.o c.args.class
-    c.in_default.not-EContainer c.in_default.not-EContents c.in_default.not-EAllContents c.in_default.not-EInverse c.in_default.not-Ancestors c.in_default.not-Siblings c.in_default.not-PrecedingSiblings c.in_default.not-FollowingSiblings)

@@ -17,9 +17,9 @@ pub returns-in_err-ys : goal.returns-in_err-ys
 returns-in_err-ys c =
     let mm = c.args.model.now.metamodel in
     let m = contents c.args.model.now in
-    let few : length c.args.os.now ≤ 65536 = omega arith in
+    let short : length c.args.os.now ≤ 65536 = omega arith in
     returned _ c.from_residual-in_err-ys.result c.in_err-ys.field-0.0 c.narrowed.new.reads c.from_residual-in_err-ys.ensures.1
-    (as_given _ _ (Err c.in_err-ys.field-0.0) c.narrowed.new.reads (sequence_short mm c.args.asked.now m c.args.os.now c.args.reads.now few)
+    (as_given _ _ (Err c.in_err-ys.field-0.0) c.narrowed.new.reads (sequence_short mm c.args.asked.now m c.args.os.now c.args.reads.now short)
     (stopped (λ ys. done (Sequence ys)) m (narrowed mm c.args.asked.now (map Object c.args.os.now)) c.args.reads.now c.in_err-ys.field-0.0 c.narrowed.new.reads
     (subst (λ xs. Gives (run (narrowed mm c.args.asked.now xs) m c.args.reads.now) (Err c.in_err-ys.field-0.0) c.narrowed.new.reads) c.in_ok-xs.ensures c.in_err-ys.ensures)))
 
@@ -27,8 +27,8 @@ pub returns : goal.returns
 returns c =
     let mm = c.args.model.now.metamodel in
     let m = contents c.args.model.now in
-    let few : length c.args.os.now ≤ 65536 = omega arith in
-    sequence_short mm c.args.asked.now m c.args.os.now c.args.reads.now few
+    let short : length c.args.os.now ≤ 65536 = omega arith in
+    sequence_short mm c.args.asked.now m c.args.os.now c.args.reads.now short
     ∙ (followed (λ ys. done (Sequence ys)) m (narrowed mm c.args.asked.now (map Object c.args.os.now)) c.args.reads.now c.in_ok-ys.ys c.narrowed.new.reads
     (subst (λ xs. run (narrowed mm c.args.asked.now xs) m c.args.reads.now ≡ record { gave = Ok c.in_ok-ys.ys; reads = c.narrowed.new.reads }) c.in_ok-xs.ensures c.in_ok-ys.ensures)
     ∙ run_done m (Sequence c.in_ok-ys.ys) c.narrowed.new.reads)

@@ -3,7 +3,6 @@ use Rattle.wb_aql_values.specs.Readings.{contents}
 use Rattle.wb_aql_values.specs.Runs.{run}
 use Rattle.wb_aql_services.specs.Services.{on_receiver}
 use Rattle.wb_aql_services.proofs.Choices.{as_given}
-use Rattle.wb_aql_services.proofs.Others.{receiver_other}
 use Rattle.wb_aql_services.proofs.serving.on_receiver.Goals as goal
 
 pub returns-in-Filter : goal.returns-in-Filter
@@ -58,7 +57,54 @@ pub returns-in-Excludes : goal.returns-in-Excludes
 unfolding on_receiver run
 returns-in-Excludes c = ap (λ s. run (on_receiver c.args.model.now.metamodel s c.args.asked.now c.args.value.now c.args.receiver.now) (contents c.args.model.now) c.args.reads.now) c.in-Excludes.is ∙ ap (λ v. record { gave = Ok v; reads = c.args.reads.now }) (sym c.excludes.ensures)
 
-pub returns-in_default : goal.returns-in_default
-returns-in_default c =
-    as_given _ _ c.lift.result c.lift.new.reads (ap (λ r. run r (contents c.args.model.now) c.args.reads.now) (receiver_other c.args.model.now.metamodel c.args.service c.args.asked.now c.args.value.now c.args.receiver.now
-    c.in_default.not-Filter c.in_default.not-First c.in_default.not-Last c.in_default.not-At c.in_default.not-Size c.in_default.not-IsEmpty c.in_default.not-NotEmpty c.in_default.not-Includes c.in_default.not-Excludes c.in_default.not-Including c.in_default.not-Excluding c.in_default.not-AsSequence c.in_default.not-AsOrderedSet)) c.lift.ensures
+pub returns-in-EContainer : goal.returns-in-EContainer
+unfolding on_receiver
+returns-in-EContainer c = as_given _ _ c.navigate.result c.navigate.new.reads (ap (λ s. run (on_receiver c.args.model.now.metamodel s c.args.asked.now c.args.value.now c.args.receiver.now) (contents c.args.model.now) c.args.reads.now) c.in-EContainer.is) c.navigate.ensures
+
+pub returns-in-EContents : goal.returns-in-EContents
+unfolding on_receiver
+returns-in-EContents c = as_given _ _ c.navigate-in-EContents.result c.navigate-in-EContents.new.reads (ap (λ s. run (on_receiver c.args.model.now.metamodel s c.args.asked.now c.args.value.now c.args.receiver.now) (contents c.args.model.now) c.args.reads.now) c.in-EContents.is) c.navigate-in-EContents.ensures
+
+pub returns-in-EAllContents : goal.returns-in-EAllContents
+unfolding on_receiver
+returns-in-EAllContents c = as_given _ _ c.navigate-in-EAllContents.result c.navigate-in-EAllContents.new.reads (ap (λ s. run (on_receiver c.args.model.now.metamodel s c.args.asked.now c.args.value.now c.args.receiver.now) (contents c.args.model.now) c.args.reads.now) c.in-EAllContents.is) c.navigate-in-EAllContents.ensures
+
+pub returns-in-EInverse : goal.returns-in-EInverse
+unfolding on_receiver
+returns-in-EInverse c = as_given _ _ c.navigate-in-EInverse.result c.navigate-in-EInverse.new.reads (ap (λ s. run (on_receiver c.args.model.now.metamodel s c.args.asked.now c.args.value.now c.args.receiver.now) (contents c.args.model.now) c.args.reads.now) c.in-EInverse.is) c.navigate-in-EInverse.ensures
+
+pub returns-in-Ancestors : goal.returns-in-Ancestors
+unfolding on_receiver
+returns-in-Ancestors c = as_given _ _ c.navigate-in-Ancestors.result c.navigate-in-Ancestors.new.reads (ap (λ s. run (on_receiver c.args.model.now.metamodel s c.args.asked.now c.args.value.now c.args.receiver.now) (contents c.args.model.now) c.args.reads.now) c.in-Ancestors.is) c.navigate-in-Ancestors.ensures
+
+pub returns-in-Siblings : goal.returns-in-Siblings
+unfolding on_receiver
+returns-in-Siblings c = as_given _ _ c.navigate-in-Siblings.result c.navigate-in-Siblings.new.reads (ap (λ s. run (on_receiver c.args.model.now.metamodel s c.args.asked.now c.args.value.now c.args.receiver.now) (contents c.args.model.now) c.args.reads.now) c.in-Siblings.is) c.navigate-in-Siblings.ensures
+
+pub returns-in-PrecedingSiblings : goal.returns-in-PrecedingSiblings
+unfolding on_receiver
+returns-in-PrecedingSiblings c = as_given _ _ c.navigate-in-PrecedingSiblings.result c.navigate-in-PrecedingSiblings.new.reads (ap (λ s. run (on_receiver c.args.model.now.metamodel s c.args.asked.now c.args.value.now c.args.receiver.now) (contents c.args.model.now) c.args.reads.now) c.in-PrecedingSiblings.is) c.navigate-in-PrecedingSiblings.ensures
+
+pub returns-in-FollowingSiblings : goal.returns-in-FollowingSiblings
+unfolding on_receiver
+returns-in-FollowingSiblings c = as_given _ _ c.navigate-in-FollowingSiblings.result c.navigate-in-FollowingSiblings.new.reads (ap (λ s. run (on_receiver c.args.model.now.metamodel s c.args.asked.now c.args.value.now c.args.receiver.now) (contents c.args.model.now) c.args.reads.now) c.in-FollowingSiblings.is) c.navigate-in-FollowingSiblings.ensures
+
+pub returns-in-OclIsKindOf : goal.returns-in-OclIsKindOf
+unfolding on_receiver
+returns-in-OclIsKindOf c = as_given _ _ c.lift.result c.lift.new.reads (ap (λ s. run (on_receiver c.args.model.now.metamodel s c.args.asked.now c.args.value.now c.args.receiver.now) (contents c.args.model.now) c.args.reads.now) c.in-OclIsKindOf.is) c.lift.ensures
+
+pub returns-in-OclIsTypeOf : goal.returns-in-OclIsTypeOf
+unfolding on_receiver
+returns-in-OclIsTypeOf c = as_given _ _ c.lift-in-OclIsTypeOf.result c.lift-in-OclIsTypeOf.new.reads (ap (λ s. run (on_receiver c.args.model.now.metamodel s c.args.asked.now c.args.value.now c.args.receiver.now) (contents c.args.model.now) c.args.reads.now) c.in-OclIsTypeOf.is) c.lift-in-OclIsTypeOf.ensures
+
+pub returns-in-OclAsType : goal.returns-in-OclAsType
+unfolding on_receiver
+returns-in-OclAsType c = as_given _ _ c.lift-in-OclAsType.result c.lift-in-OclAsType.new.reads (ap (λ s. run (on_receiver c.args.model.now.metamodel s c.args.asked.now c.args.value.now c.args.receiver.now) (contents c.args.model.now) c.args.reads.now) c.in-OclAsType.is) c.lift-in-OclAsType.ensures
+
+pub returns-in-Concat : goal.returns-in-Concat
+unfolding on_receiver
+returns-in-Concat c = as_given _ _ c.lift-in-Concat.result c.lift-in-Concat.new.reads (ap (λ s. run (on_receiver c.args.model.now.metamodel s c.args.asked.now c.args.value.now c.args.receiver.now) (contents c.args.model.now) c.args.reads.now) c.in-Concat.is) c.lift-in-Concat.ensures
+
+pub returns-in-StartsWith : goal.returns-in-StartsWith
+unfolding on_receiver
+returns-in-StartsWith c = as_given _ _ c.lift-in-StartsWith.result c.lift-in-StartsWith.new.reads (ap (λ s. run (on_receiver c.args.model.now.metamodel s c.args.asked.now c.args.value.now c.args.receiver.now) (contents c.args.model.now) c.args.reads.now) c.in-StartsWith.is) c.lift-in-StartsWith.ensures
