@@ -1,5 +1,5 @@
 -- What is read in a run: no cell twice, and enough to tell what the run gives.
-use Rattle.std.proofs.Common.{◌≡◌, ℕ, Bool, true, false, ◌||◌, nat_eq, List, [], ◌∷◌, ◌++◌, Some, refl, sym, ap, subst, ◌∙◌, if◌then◌else◌}
+use Rattle.std.proofs.Common.{◌≡◌, ℕ, Bool, true, false, ◌||◌, nat_eq, List, [], ◌∷◌, ◌++◌, Some, Result, refl, sym, ap, subst, ◌∙◌, if◌then◌else◌}
 use Rattle.std.proofs.lemmas.Bool.{false≢true, eqb-true, and_parts, or_parts}
 use Rattle.std.proofs.lemmas.List.Elements.{All-head, All-tail, All-pop}
 use Rattle.std.specs.Prelude.{All}
@@ -8,13 +8,13 @@ use Rattle.wb_store.specs.declared.scalars.Cell.{Cell}
 use Rattle.wb_store.specs.declared.scalars.Cell.TheVariants.{Kind, Slot, Holder, Tree, Inverse, Extent, Roots}
 use Rattle.wb_store.specs.Contents.{Contents}
 use Rattle.wb_aql_check.specs.declared.checked.Origin.{Origin}
+use Rattle.wb_aql_values.specs.declared.faults.Fault.{Fault}
 use Rattle.wb_aql_values.specs.Cells.{same_cell}
 use Rattle.wb_aql_values.specs.Readings.{Content, Reading, done, fail, look, contents}
 use Rattle.wb_aql_values.specs.Runs.{Ran, run, with_read}
 use Rattle.wb_aql_eval.specs.declared.env.Env.{Env}
 use Rattle.wb_aql_values.specs.declared.values.Value.{Value}
-use Rattle.wb_aql_eval.specs.declared.env.Outcome.{Outcome}
-use Rattle.wb_aql_eval.specs.Outcomes.{sense, outcome_of, ran}
+use Rattle.wb_aql_eval.specs.Outcomes.{sense, outcome_of}
 use Rattle.wb_aql_eval.specs.ReadCells.{Alike}
 
 -- ---- cells
@@ -41,6 +41,7 @@ all_more P [] c h p = (p, tt)
 all_more P (d ∷ cells) c h p = (h.0, all_more P cells c h.1 p)
 
 distinct_more : (cells : List Cell) (c : Cell) → IsDistinct same_cell cells → list_any (same_cell c) cells ≡ false → IsDistinct same_cell (cells ++ c ∷ [])
+unfolding IsDistinct
 distinct_more [] c h none = (tt, tt)
 distinct_more (d ∷ cells) c h none =
     let q = or_parts _ _ none in
@@ -58,12 +59,13 @@ distinct_read (fail fault) m old h = h
 distinct_read (look c onward) m old h = distinct_read (onward (m c)) m (with_read old c) (distinct_with_read (list_any (same_cell c) old) old c refl h)
 
 pub outcomes_read_once : (checked : Origin × List (List ℕ)) (env : Env) (m : Contents) → IsDistinct same_cell (outcome_of checked env m).reads
-unfolding outcome_of
+unfolding outcome_of IsDistinct
 outcomes_read_once checked env m = distinct_read (sense m.metamodel checked.0 env) (contents m) [] tt
 
 -- the reads of an outcome that was found
-pub found_reads_once : (checked : Origin × List (List ℕ)) (env : Env) (m : Contents) (outcome : Outcome) → outcome_of checked env m ≡ ran outcome → IsDistinct same_cell outcome.reads
-found_reads_once checked env m outcome e = subst (λ (r : Ran Value). IsDistinct same_cell r.reads) e (outcomes_read_once checked env m)
+pub found_reads_once : (checked : Origin × List (List ℕ)) (env : Env) (m : Contents) (gave : Result Value Fault) (reads : List Cell)
+    → outcome_of checked env m ≡ record { gave = gave; reads = reads } → IsDistinct same_cell reads
+found_reads_once checked env m gave reads e = subst (λ (r : Ran Value). IsDistinct same_cell r.reads) e (outcomes_read_once checked env m)
 
 -- ---- what is true of all reads
 
