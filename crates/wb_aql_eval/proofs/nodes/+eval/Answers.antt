@@ -70,6 +70,7 @@ eval_node-eval_call-requires t c =
 
 pub eval_let-eval_node-requires-2 : goal.eval_let-eval_node-requires-2
 eval_let-eval_node-requires-2 t c =
+    let b : IsBounded c.args.context.now.model.now.metamodel c.in_ok-value.value = c.in_ok-value.ensures.bounded in
     search (rules, inner_within)
 
 pub eval_member-eval_node-requires : goal.eval_member-eval_node-requires
