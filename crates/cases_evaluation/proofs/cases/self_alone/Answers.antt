@@ -1,8 +1,6 @@
-use Rattle.std.proofs.Common.{rules, ◌≡◌, ℕ, List, [], ◌∷◌, ◌++◌}
-use Rattle.wb_metamodel.specs.Metamodel.{Metamodel}
+use Rattle.std.proofs.Common.{rules, ◌≡◌, [], ◌∷◌}
 use Rattle.wb_store.specs.declared.scalars.Scalar.TheVariants.{Object}
 use Rattle.wb_aql_values.specs.declared.values.Value.TheVariants.{One}
-use Rattle.wb_aql_eval.specs.Outcomes.{Binds}
 use Rattle.cases_evaluation.proofs.Selves.{binds_self}
 use Rattle.cases_evaluation.proofs.cases.self_alone.Goals as goal
 
