@@ -3,8 +3,8 @@
 
     python3 expected/evaluations.py METAMODEL MODEL EXPRESSIONS     prints them
 
-A line of EXPRESSIONS is the number of the object that `self` is, a space and an expression. This program shares nothing with the
-crates.
+A line of EXPRESSIONS is the number of the object that `self` is, a space and an expression; or `concat` and two words, which that service
+joins without a read. This program shares nothing with the crates.
 """
 import json
 import re
@@ -577,6 +577,9 @@ def lines(metamodel, model, expressions):
 
 
 def outcome(model, number, text):
+    if number == "concat":
+        first, second = text.split(" ", 1)
+        return f"concat {text} => {shown(first + second)} ;"
     evaluation = Evaluation(model)
     try:
         answer = shown(evaluation.value(Parser(text).whole(), {"self": Object(int(number))}))
