@@ -5,7 +5,6 @@ mod asked;
 mod edits;
 mod looks;
 mod names;
-mod problems;
 mod readers;
 mod rows;
 mod scripts;

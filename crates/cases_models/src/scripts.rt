@@ -55,7 +55,7 @@ fn push_answer(
         "create" | "remove" | "unset" | "move" | "set" | "add" | "take" => {
             push_edit(alloc, shown, model, asked)
         }
-        "readers" | "all" | "copy" | "empty" | "write" | "row" | "object" | "read" | "problem" => {
+        "readers" | "all" | "copy" | "empty" | "write" | "row" | "object" | "read" => {
             push_text(alloc, shown, model, asked)
         }
         "repeat" => push_repeated(alloc, shown, model, asked),
