@@ -4,6 +4,7 @@ use Rattle.std.proofs.Common.{◌≡◌, ◌≤◌, ℕ, zero, suc, Bool, true, 
 use Rattle.std.proofs.lemmas.Bool.{false≢true}
 use Rattle.std.proofs.lemmas.Bool.Decides.{nat_tests}
 use Rattle.std.specs.Prelude.{slice_get}
+use Rattle.std.specs.Str.{is_utf8}
 use Rattle.std.specs.List.{list_all}
 use Rattle.std.specs.Option.{option_map_or}
 use Rattle.wb_metamodel.specs.Metamodel.{Metamodel, feature_named, feature_at, literals_of}
@@ -54,7 +55,7 @@ bounded_kind : (m : Contents) (k : FeatureKind) (x : Scalar) → is_of_kind m k 
 bounded_kind m k (Int n) h = refl
 bounded_kind m k (Boolean b) h = refl
 bounded_kind m k (Object o) h = refl
-bounded_kind m TextKind (Text bytes) h = h
+bounded_kind m TextKind (Text bytes) h = (and_both (is_utf8 bytes) (nat_le (length bytes) 65536) h).1
 bounded_kind m IntKind (Text bytes) h = absurd (false≢true h)
 bounded_kind m BoolKind (Text bytes) h = absurd (false≢true h)
 bounded_kind m (Enum e) (Text bytes) h = absurd (false≢true h)
