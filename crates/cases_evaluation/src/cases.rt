@@ -76,31 +76,30 @@ fn push_text(
     requires { (mm : Metamodel) → Binds mm env.now.names env.now }
 {
     match parse(alloc, text.as_bytes()) {
-        Ok(expression) => push_expression(alloc, shown, model, env, expression),
+        Ok(expression) => push_expression(
+            alloc,
+            shown,
+            model,
+            env,
+            expression,
+            &mut Steps::<Cases>::new(),
+        ),
         Err(_) => push_no_case(shown),
     }
 }
 
-fn push_expression(
+fn push_expression<E: Evaluator>(
     alloc: Global,
     shown: &mut String,
     model: &Model,
     env: &Env,
     expression: Expr,
+    evaluator: &mut E,
 ) -> Result<(), AllocError>
     requires { (mm : Metamodel) → Binds mm env.now.names env.now }
 {
     match check(alloc, expression, env.names.as_slice(), model.metamodel()) {
-        Ok(checked) => {
-            push_outcome(
-                alloc,
-                shown,
-                model,
-                env,
-                &checked,
-                &mut Steps::<Cases>::new(),
-            )
-        }
+        Ok(checked) => { push_outcome(alloc, shown, model, env, &checked, evaluator) }
         Err(_) => push_no_case(shown),
     }
 }
