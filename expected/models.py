@@ -105,6 +105,23 @@ def a_read_row(m, text):
     return " ".join([m.metamodel.classes[found[0]]["name"]] + [f"{m.feature(f).shown} {spaced(map(shown, values))}" for f, values in found[1]])
 
 
+PATH = r"(?:0|[1-9][0-9]*)\.(?:0|[1-9][0-9]*)(?:-(?:0|[1-9][0-9]*)\.(?:0|[1-9][0-9]*)){0,31}"
+PAIR = r"(?:0|[1-9][0-9]*)\.(?:0|[1-9][0-9]*)"
+
+
+def a_problem(sort, number, key):
+    """The text of a diagram whose only problem is that of a unit."""
+    is_number, is_path = re.fullmatch("[0-9]+", number), re.fullmatch(PATH, key)
+    is_key = is_path or re.fullmatch(f"{PAIR}:{PATH}:{PATH}", key)
+    forms = {"candidates": is_number and (is_path or not is_key) and f"{sort} {number} {key}", "edge-candidates": is_number and not is_key and f"{sort} {number}",
+             "precondition": not is_number and is_path and f"{sort} {key}"}
+    forms |= {name: is_number and is_key and f"{name} {number} {key}" for name in ("style", "label", "filter")}
+    forms |= {name: not is_number and is_path and f"{name} {key.split('-')[0]}" for name in ("edge-precondition", "source", "target")}
+    if not forms.get(sort):
+        raise Wrong
+    return written({"edges": [], "elements": [], "filters": [], "layers": [], "problems": [{"at": forms[sort], "fault": "NotBool"}], "revision": 7})
+
+
 def emptied(m):
     m.__init__(m.metamodel, 1, {}, [], [])
     return "emptied"
@@ -134,6 +151,7 @@ ANSWERS = {
     "copy": lambda m, *_: "copied",
     "empty": lambda m, *_: emptied(m),
     "object": lambda m, *words: a_read_row(m, words[-1]),
+    "problem": lambda m, x, y, z, _: a_problem(x, y, z),
     "all": lambda m, *_: "\n" + readers(m),
     "readers": lambda m, *_: hashlib.md5(readers(m).encode()).hexdigest()}
 

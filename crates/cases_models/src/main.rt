@@ -5,6 +5,7 @@ mod asked;
 mod edits;
 mod looks;
 mod names;
+mod problems;
 mod readers;
 mod rows;
 mod scripts;

@@ -55,7 +55,7 @@ fn push_answer(
         "create" | "remove" | "unset" | "move" | "set" | "add" | "take" => {
             push_edit(alloc, shown, model, asked)
         }
-        "readers" | "all" | "copy" | "empty" | "write" | "row" | "object" | "read" => {
+        "readers" | "all" | "copy" | "empty" | "write" | "row" | "object" | "read" | "problem" => {
             push_text(alloc, shown, model, asked)
         }
         "repeat" => push_repeated(alloc, shown, model, asked),

@@ -1,6 +1,7 @@
 //! Lines about whole models and their texts. Each function answers false where the line is no such one or has a wrong word.
 use crate::asked::Asked;
 use crate::names::object;
+use crate::problems::push_problem;
 use crate::readers::{push_digest, push_readers};
 use crate::rows::push_row_of;
 use std::alloc::{AllocError, Global};
@@ -18,6 +19,7 @@ pub fn push_text(
         "copy" => push_copy(alloc, shown, model),
         "empty" => push_empty(alloc, shown, model),
         "row" => push_row(alloc, shown, model, asked),
+        "problem" => push_problem(alloc, shown, asked),
         _ => push_whole(alloc, shown, model, asked),
     }
 }
