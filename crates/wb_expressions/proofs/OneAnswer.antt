@@ -5,7 +5,7 @@ use Rattle.wb_aql_grammar.specs.Tree.{Tree}
 use Rattle.wb_aql_grammar.specs.declared.refusal.ParseRefusal.{ParseRefusal}
 use Rattle.wb_aql_grammar.specs.declared.refusal.ParseRefusal.TheVariants.{Syntax, TooDeep, NoMemory}
 use Rattle.wb_aql_grammar.proofs.Texts.{text_tree, text_syntax, text_depth, text_refusal, text_no_syntax, text_no_depth}
-use Rattle.wb_expressions.specs.Parsed.{IsAnswer}
+use Rattle.wb_expressions.specs.Parsed.{IsAnswer, parsed, parsed_answers}
 
 pub same_answer : (text : List ℕ) (a b : Result Tree ParseRefusal) → IsAnswer text a → IsAnswer text b → a ≡ b
 same_answer text (Ok x) (Ok y) h k = ap Ok (text_tree text x y h k)
@@ -19,3 +19,7 @@ same_answer text (Err (TooDeep p)) (Err (Syntax q)) h k = absurd (text_refusal t
 same_answer text (Err (TooDeep p)) (Err (TooDeep q)) h k = ap (λ z. Err (TooDeep z)) (text_depth text p q h k)
 same_answer text a (Err NoMemory) h k = absurd k
 same_answer text (Err NoMemory) b h k = absurd h
+
+-- an answer is that of the function
+pub the_answer : (text : List ℕ) (answer : Result Tree ParseRefusal) → IsAnswer text answer → answer ≡ parsed text
+the_answer text answer h = same_answer text answer (parsed text) h (parsed_answers text)

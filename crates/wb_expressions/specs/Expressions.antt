@@ -1,6 +1,5 @@
 -- The expressions that viewpoints write: a prefix, what stands behind it, and the names that it uses.
-use Rattle.std.specs.Prelude.{ℕ, List, [], Option, Some, None, Result, Ok, Err, codes, decimal, drop, length, nat_eq, option_and_then, if◌then◌else◌}
-use Rattle.std.specs.List.{starts_with}
+use Rattle.std.specs.Prelude.{ℕ, List, [], Option, Some, None, Result, Ok, Err, bytes_eq, codes, decimal, take, drop, length, option_and_then, if◌then◌else◌}
 use Rattle.std.specs.Option.{option_map_or}
 use Rattle.wb_base.specs.Results.{◌>>=◌}
 use Rattle.wb_metamodel.specs.Metamodel.{Metamodel}
@@ -30,9 +29,9 @@ pub data Written : Type 0 where
   -- nothing known
   unknown : Written
 
--- what follows the prefix, where the text begins with it
+-- what follows the prefix, where the text begins with its bytes
 abbrev pub behind : List ℕ → List ℕ → Option (List ℕ)
-behind prefix text = if starts_with nat_eq text prefix then Some (drop (length prefix) text) else None
+behind prefix text = if bytes_eq (take (length prefix) text) prefix then Some (drop (length prefix) text) else None
 
 -- the name of the grammar that follows the prefix
 abbrev pub name_behind : List ℕ → List ℕ → Option (List ℕ)

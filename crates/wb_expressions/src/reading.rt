@@ -1,4 +1,4 @@
-ghost use Rattle.std.specs.Prelude.{◌≡◌, IfOk, option_map};
+ghost use Rattle.std.specs.Prelude.{◌≡◌, IfOk, IfSome, option_map};
 ghost use Rattle.wb_base.specs.Answering.{AsDefined};
 ghost use Rattle.wb_aql_check.specs.Checked.{IsChecked, checked, refusal_of};
 ghost use Rattle.wb_expressions.specs.Codes.{code_of};
@@ -10,7 +10,7 @@ use crate::trees::read_tree;
 use std::alloc::Global;
 use wb_aql_check::{CheckRefusal, Checked, check};
 use wb_aql_syntax::Expr;
-use wb_base::Text;
+use wb_base::{Duplicate, Text};
 use wb_metamodel::Metamodel;
 
 /// The expression that a viewpoint writes, with the variables in scope, or its first problem.
@@ -38,20 +38,30 @@ fn check_names(
 {
     match check(alloc, expr, scope, metamodel) {
         Ok(checked) => Ok(checked),
-        Err(refusal) => Err(misnamed(refusal)),
+        Err(refusal) => Err(misnamed(alloc, &refusal)),
     }
 }
 
 /// The problem that a name is not known.
-fn misnamed(refusal: CheckRefusal) -> ExprRefusal
-    ensures { code_of result ≡ option_map misnamed (refusal_of refusal) }
+fn misnamed(alloc: Global, refusal: &CheckRefusal) -> ExprRefusal
+    ensures { IfSome (code_of result) (λ told. option_map misnamed (refusal_of refusal.now) ≡ Some told) }
 {
     match refusal {
-        CheckRefusal::UnknownVariable(name) => ExprRefusal::At(ProblemCode::UnknownVariable, name),
-        CheckRefusal::UnknownFeature(name) => ExprRefusal::At(ProblemCode::UnknownFeature, name),
-        CheckRefusal::UnknownService(name) => ExprRefusal::At(ProblemCode::UnknownService, name),
-        CheckRefusal::WrongArity(name) => ExprRefusal::At(ProblemCode::WrongArity, name),
-        CheckRefusal::UnknownType(name) => ExprRefusal::At(ProblemCode::UnknownType, name),
+        CheckRefusal::UnknownVariable(name) => about(alloc, ProblemCode::UnknownVariable, name),
+        CheckRefusal::UnknownFeature(name) => about(alloc, ProblemCode::UnknownFeature, name),
+        CheckRefusal::UnknownService(name) => about(alloc, ProblemCode::UnknownService, name),
+        CheckRefusal::WrongArity(name) => about(alloc, ProblemCode::WrongArity, name),
+        CheckRefusal::UnknownType(name) => about(alloc, ProblemCode::UnknownType, name),
         CheckRefusal::NoMemory => ExprRefusal::NoMemory,
+    }
+}
+
+/// A problem with a name, which is its detail.
+fn about(alloc: Global, code: ProblemCode, name: &Text) -> ExprRefusal
+    ensures { IfSome (code_of result) (λ told. told ≡ (code, name.now)) }
+{
+    match name.copy(alloc) {
+        Ok(detail) => ExprRefusal::At(code, detail),
+        Err(_) => ExprRefusal::NoMemory,
     }
 }

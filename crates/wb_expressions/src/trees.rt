@@ -1,4 +1,4 @@
-ghost use Rattle.std.specs.Prelude.{◌≡◌, ◌∷◌, Ok, codes, decimal, option_map, IfOk, true, string_bytes};
+ghost use Rattle.std.specs.Prelude.{◌≡◌, ◌∷◌, Ok, codes, decimal, IfSome, true};
 ghost use Rattle.wb_base.specs.Answering.{AsDefined};
 ghost use Rattle.wb_aql_tokens.specs.Lexes.{is_expression_name};
 ghost use Rattle.wb_aql_grammar.specs.Tree as t;
@@ -9,7 +9,7 @@ ghost use Rattle.wb_expressions.specs.Parsed.{parsed};
 use crate::prefixes::{behind, name_behind};
 use crate::problem::ProblemCode;
 use crate::refusal::ExprRefusal;
-use std::alloc::{AllocError, Global};
+use std::alloc::Global;
 use wb_aql_syntax::{Expr, ParseRefusal, parse};
 use wb_base::Text;
 
