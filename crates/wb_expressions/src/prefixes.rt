@@ -23,6 +23,7 @@ pub fn name_behind<'a>(prefix: &[u8], text: &'a [u8]) -> Option<&'a str>
 }
 
 /// The bytes as a name that an expression can write.
+#[tactic(auto, using(crate::proofs::Names::no_text_no_name))]
 fn expression_name(bytes: &[u8]) -> Option<&str>
     ensures found { option_map (λ name. name.now) result ≡ (if is_expression_name bytes.now then Some bytes.now else None) }
     ensures name { IfSome result (λ name. is_expression_name name.now ≡ true) }

@@ -14,6 +14,7 @@ use wb_base::{Duplicate, Text};
 use wb_metamodel::Metamodel;
 
 /// The expression that a viewpoint writes, with the variables in scope, or its first problem.
+#[tactic(auto, unfolding(crate::specs::Expressions::expression))]
 pub fn read_expression(
     alloc: Global,
     text: &[u8],

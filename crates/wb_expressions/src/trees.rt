@@ -14,6 +14,7 @@ use wb_aql_syntax::{Expr, ParseRefusal, parse};
 use wb_base::Text;
 
 /// The tree of an expression, by its prefix.
+#[tactic(auto, unfolding(crate::specs::Expressions::tree_of, crate::specs::Expressions::written))]
 pub fn read_tree(alloc: Global, text: &[u8]) -> Result<Expr, ExprRefusal>
     ensures { AsDefined code_of (tree_of text.now) result }
 {
@@ -30,6 +31,7 @@ pub fn read_tree(alloc: Global, text: &[u8]) -> Result<Expr, ExprRefusal>
 }
 
 /// The tree that the text behind `aql:` spells.
+#[tactic(auto, using(crate::proofs::Told::told_refusal, crate::proofs::Told::tree_spelled, crate::proofs::Told::tree_misspelled, crate::proofs::Told::tree_too_deep))]
 fn read_spelled(alloc: Global, text: &[u8]) -> Result<Expr, ExprRefusal>
     ensures { AsDefined code_of (spelled_tree (parsed text.now)) result }
 {
