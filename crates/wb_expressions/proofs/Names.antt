@@ -1,5 +1,5 @@
 -- Names of the grammar as texts.
-use Rattle.std.proofs.Common.{◌≡◌, ℕ, List, Bool, true, false, refl, sym, IsUtf8}
+use Rattle.std.proofs.Common.{◌≡◌, ℕ, List, Bool, true, false, refl, IsUtf8}
 use Rattle.wb_base.specs.Names.{is_name_byte}
 use Rattle.wb_aql_tokens.specs.Lexes.{is_expression_name}
 use Rattle.wb_aql_tokens.proofs.Runs.{ascii_text}

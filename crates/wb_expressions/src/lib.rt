@@ -8,7 +8,7 @@ mod reading;
 mod refusal;
 mod trees;
 
-pub use laws::{one_answer, parsed_is_the_answer};
+pub use laws::{one_answer, parsed_is_the_answer, wrong_names_are_no_want_of_memory};
 pub use problem::ProblemCode;
 pub use reading::read_expression;
 pub use refusal::ExprRefusal;

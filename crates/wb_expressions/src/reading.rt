@@ -28,6 +28,7 @@ pub fn read_expression(
     check_names(alloc, expr, scope, metamodel)
 }
 
+/// The expression, if each of its names is known.
 fn check_names(
     alloc: Global,
     expr: Expr,

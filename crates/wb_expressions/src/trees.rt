@@ -27,7 +27,10 @@ pub fn read_tree(alloc: Global, text: &[u8]) -> Result<Expr, ExprRefusal>
     if let Some(name) = name_behind(b"var:", text) {
         return variable(alloc, name);
     }
-    Err(ExprRefusal::At(ProblemCode::BadPrefix, Text::from_str(alloc, "")?))
+    Err(ExprRefusal::At(
+        ProblemCode::BadPrefix,
+        Text::from_string(String::new(alloc)),
+    ))
 }
 
 /// The tree that the text behind `aql:` spells.
@@ -53,6 +56,7 @@ fn at_offset(alloc: Global, code: ProblemCode, offset: usize) -> ExprRefusal
     }
 }
 
+/// The feature of this name of `self`.
 fn feature(alloc: Global, name: &str) -> Result<Expr, ExprRefusal>
     requires { is_expression_name name.now ≡ true }
     ensures { AsDefined code_of (Ok (t.Feature (t.Variable (codes "self")) name.now)) result }
@@ -60,6 +64,7 @@ fn feature(alloc: Global, name: &str) -> Result<Expr, ExprRefusal>
     Ok(Expr::feature_of_self(alloc, Text::from_str(alloc, name)?)?)
 }
 
+/// The variable of this name.
 fn variable(alloc: Global, name: &str) -> Result<Expr, ExprRefusal>
     requires { is_expression_name name.now ≡ true }
     ensures { AsDefined code_of (Ok (t.Variable name.now)) result }
