@@ -1,0 +1,4 @@
+pub mod Names
+pub mod OneAnswer
+pub mod Told
+pub mod WantOfMemory
