@@ -37,8 +37,9 @@ laid_more m n ks i k seen before l at h s e =
     ∙ ap (λ x. placed (arranged m (take i ks)) k (grid x)) s
     ∙ sym (ap (arranged m) (take_more ks i k l ∙ ap (λ x. take i ks ++ x ∷ []) (sym at)) ∙ arranged-last m (take i ks) k)
 
-pub seen_more : (ks : List Key) (i : ℕ) (k q : Key) → i < length ks → k ≡ get_or ks i k
-    → length (children_of q (take (i + 1) ks)) ≡ length (children_of q (take i ks)) + cond (same_key (parent_of k) q) 1 0
-seen_more ks i k q l at =
-    length-filter_more (λ key. same_key (parent_of key) q) ks i k l
-    ∙ ap (λ x. length (children_of q (take i ks)) + cond (same_key (parent_of x) q) 1 0) (sym at)
+pub seen_more : (ks : List Key) (i : ℕ) (k q : Key) (before now : ℕ) → i < length ks → k ≡ get_or ks i k → before ≡ length (children_of q (take i ks))
+    → now ≡ before + cond (same_key (parent_of k) q) 1 0 → now ≡ length (children_of q (take (i + 1) ks))
+seen_more ks i k q before now l at h e =
+    e ∙ ap (λ n. n + cond (same_key (parent_of k) q) 1 0) h
+    ∙ ap (λ x. length (children_of q (take i ks)) + cond (same_key (parent_of x) q) 1 0) at
+    ∙ sym (length-filter_more (λ key. same_key (parent_of key) q) ks i k l)
