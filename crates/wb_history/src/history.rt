@@ -1,4 +1,4 @@
-ghost use Rattle.std.specs.Prelude.{◌≡◌, ◌+◌, ◌<◌, ◌≤◌, length, IfOk, option_copied};
+ghost use Rattle.std.specs.Prelude.{◌≡◌, ◌+◌, ◌<◌, ◌≤◌, length, IfOk, OnSome, option_copied};
 ghost use Rattle.circular_buffer.specs.Buffer.{last_item};
 ghost use Rattle.wb_history.specs.Stacks.{stepped, unbegun, with_future, with_past, without_newest_future, without_newest_past};
 
@@ -53,18 +53,20 @@ impl<E: Drop> History<E> {
         self.past.push_back(entry);
     }
 
-    /// Takes the newest entry of the past; `None` where it is empty.
+    /// Takes the newest entry of the past; `None` where it is empty. What is taken makes room for one to put back.
     pub fn undo_entry(&mut self) -> Option<E>
         ensures entry { result ≡ last_item self.old.past }
         ensures rest { self.new ≡ without_newest_past self.old }
+        ensures room { OnSome result (length self.new.past + length self.new.future < self.new.capacity) }
     {
         self.past.pop_back()
     }
 
-    /// Takes the newest entry of the future; `None` where it is empty.
+    /// Takes the newest entry of the future; `None` where it is empty. What is taken makes room for one to put back.
     pub fn redo_entry(&mut self) -> Option<E>
         ensures entry { result ≡ last_item self.old.future }
         ensures rest { self.new ≡ without_newest_future self.old }
+        ensures room { OnSome result (length self.new.past + length self.new.future < self.new.capacity) }
     {
         self.future.pop_back()
     }

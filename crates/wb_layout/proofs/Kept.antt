@@ -8,7 +8,8 @@ use Rattle.std.proofs.lemmas.List.{take_more}
 use Rattle.std.proofs.lemmas.List.Folds.{list_any-append}
 use Rattle.wb_diagram.specs.declared.keys.Key.{Key}
 use Rattle.wb_layout.specs.Orders.{key_cmp, same_key, is_key}
-use Rattle.wb_layout.specs.Positions.{Position, Positions, placed, restricted, kept_too}
+use Rattle.wb_layout.specs.Positions.{Position, Positions, placed, restricted}
+use Rattle.wb_layout.specs.invariants.Kept.{kept_too}
 use Rattle.wb_layout.proofs.KeyOrder.{key_cmp_total, key_cmp-IsAntisymmetric}
 
 equal_of : (r : Ordering) → is_eq r ≡ true → r ≡ c.Equal

@@ -3,3 +3,4 @@ pub mod Maps
 pub mod Kept
 pub mod Laid
 pub mod Counts
+pub mod Each

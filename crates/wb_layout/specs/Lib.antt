@@ -1,4 +1,4 @@
 pub mod Orders
 pub mod Positions
 pub mod Grid
-pub mod Seen
+pub mod invariants

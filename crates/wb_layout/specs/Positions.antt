@@ -1,9 +1,9 @@
 -- Positions of elements, by their keys.
-use Rattle.std.specs.Prelude.{ℕ, ◌≤◌, ℤ, nat_abs, List, Option, Some, None, if◌then◌else◌}
+use Rattle.std.specs.Prelude.{ℕ, ◌≤◌, ℤ, nat_abs, List}
 use Rattle.std.specs.FinMap as map
 use Rattle.std.specs.FinMap.{FinMap}
 use Rattle.wb_diagram.specs.declared.keys.Key.{Key}
-use Rattle.wb_layout.specs.Orders.{key_cmp, same_key, is_key}
+use Rattle.wb_layout.specs.Orders.{key_cmp, is_key}
 
 -- right and down from the parent
 abbrev pub Position : Type 0
@@ -24,8 +24,3 @@ placed positions key at = map.insert positions key at
 -- the positions of these keys alone
 abbrev pub restricted : Positions → List Key → Positions
 restricted positions keys = map.retain_keys positions (is_key keys)
-
--- what a key has, once one more key that has a position keeps it
-abbrev pub kept_too : Key → Option Position → Option Position → Key → Option Position
-kept_too key (Some at) before other = if same_key other key then Some at else before
-kept_too key None before other = before

@@ -3,7 +3,7 @@ ghost use Rattle.wb_diagram.specs.declared.keys.Key.{Key};
 ghost use Rattle.wb_layout.specs.Grid.{arranged, grid, parent_of};
 ghost use Rattle.wb_layout.specs.Orders.{same_key};
 ghost use Rattle.wb_layout.specs.Positions.{placed};
-ghost use Rattle.wb_layout.specs.Seen.{seen_of};
+ghost use Rattle.wb_layout.specs.invariants.Seen.{seen_of};
 
 use crate::grid::grid;
 use crate::layout::Layout;

@@ -3,9 +3,11 @@
 
 mod arranging;
 mod grid;
+mod laws;
 mod layout;
 mod restricting;
 mod siblings;
 
 pub use grid::is_in_range;
+pub use laws::{each_is_laid_once, only_the_declared_stay};
 pub use layout::Layout;

@@ -1,7 +1,8 @@
 ghost use Rattle.std.specs.Prelude.{◌≡◌, IfOk, OnOk, OnErr};
 ghost use Rattle.std.specs.FinMap as map;
 ghost use Rattle.wb_diagram.specs.declared.keys.Key.{Key};
-ghost use Rattle.wb_layout.specs.Positions.{kept_too, restricted};
+ghost use Rattle.wb_layout.specs.Positions.{restricted};
+ghost use Rattle.wb_layout.specs.invariants.Kept.{kept_too};
 
 use crate::layout::Layout;
 use std::alloc::{AllocError, Global};

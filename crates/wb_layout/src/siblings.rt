@@ -2,7 +2,7 @@ ghost use Rattle.std.specs.Prelude.{◌≡◌, ◌+◌, ◌^◌, ◌<◌, ◌-�
 ghost use Rattle.wb_diagram.specs.declared.keys.Key.{Key};
 ghost use Rattle.wb_layout.specs.Grid.{parent_of};
 ghost use Rattle.wb_layout.specs.Orders.{same_key};
-ghost use Rattle.wb_layout.specs.Seen.{seen_of};
+ghost use Rattle.wb_layout.specs.invariants.Seen.{seen_of};
 
 use std::alloc::{AllocError, Global};
 use std::collections::BTreeMap;

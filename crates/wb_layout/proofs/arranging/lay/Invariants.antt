@@ -1,7 +1,7 @@
 use Rattle.std.proofs.Common.{◌≡◌, take, length}
 use Rattle.wb_diagram.specs.declared.keys.Key.{Key}
 use Rattle.wb_layout.specs.Grid.{arranged, children_of}
-use Rattle.wb_layout.specs.Seen.{seen_of}
+use Rattle.wb_layout.specs.invariants.Seen.{seen_of}
 use Rattle.wb_layout.proofs.arranging.lay.Given as goal
 
 -- those so far are laid, and counted for each parent

@@ -1,6 +1,7 @@
 use Rattle.std.proofs.Common.{◌≡◌, subst, Option}
 use Rattle.std.specs.FinMap.{get}
-use Rattle.wb_layout.specs.Positions.{Position, kept_too}
+use Rattle.wb_layout.specs.Positions.{Position}
+use Rattle.wb_layout.specs.invariants.Kept.{kept_too}
 use Rattle.wb_layout.proofs.Kept.{placed_too}
 use Rattle.wb_layout.proofs.restricting.keep.Goals as goal
 
