@@ -33,6 +33,17 @@ pub fn push(alloc: Global, shown: &mut String) -> Result<(), AllocError> {
     push_dropped(alloc, shown)
 }
 
+/// How many steps could be undone; `None` where there were 200 and more.
+fn undo_all(history: &mut History<u32>, now: &mut u32) -> Option<u32> {
+    for undone in 0..200 {
+        match undo(history, *now) {
+            Some(before) => *now = before,
+            None => return Some(undone),
+        }
+    }
+    None
+}
+
 /// After 101 steps from 0 on, as far back as it goes, and one step forward.
 fn push_hundred(alloc: Global, shown: &mut String) -> Result<(), AllocError> {
     let mut history = History::new(alloc, 100)?;
@@ -40,14 +51,7 @@ fn push_hundred(alloc: Global, shown: &mut String) -> Result<(), AllocError> {
         history.push(step);
     }
     let mut now = 101;
-    let mut undone = 0;
-    for _ in 0..200 {
-        if let Some(before) = undo(&mut history, now) {
-            now = before;
-            undone += 1;
-        }
-    }
-    push_number(shown, "undone", Some(undone))?;
+    push_number(shown, "undone", undo_all(&mut history, &mut now))?;
     push_number(shown, "now", Some(now))?;
     push_number(shown, "past", history.newest_past().copied())?;
     push_number(shown, "future", history.newest_future().copied())?;
