@@ -1,0 +1,6 @@
+pub mod KeyOrder
+pub mod Maps
+pub mod Kept
+pub mod Laid
+pub mod Counts
+pub mod Each

@@ -1,0 +1,4 @@
+pub mod Orders
+pub mod Positions
+pub mod Grid
+pub mod invariants

@@ -1,0 +1,3 @@
+-- What the code keeps to while it works.
+pub mod Kept
+pub mod Seen

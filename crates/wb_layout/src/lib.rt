@@ -1,0 +1,13 @@
+//! Where the elements of a diagram stand: positions that were given by hand or by the grid, by the keys of the elements.
+#![tactic(auto)]
+
+mod arranging;
+mod grid;
+mod laws;
+mod layout;
+mod restricting;
+mod siblings;
+
+pub use grid::is_in_range;
+pub use laws::{each_is_laid_once, only_the_declared_stay};
+pub use layout::Layout;
