@@ -1,0 +1,5 @@
+pub mod Codes
+pub mod Expressions
+pub mod Lexing
+pub mod NextToken
+pub mod Parsed

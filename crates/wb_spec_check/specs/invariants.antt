@@ -1,0 +1,4 @@
+-- What the code keeps to while it checks.
+pub mod Findings
+pub mod Known
+pub mod Reports
