@@ -2,3 +2,4 @@
 pub mod Findings
 pub mod Known
 pub mod Reports
+pub mod Taken
