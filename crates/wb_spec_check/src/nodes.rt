@@ -185,7 +185,6 @@ fn nested_with(children: Option<List<u32>>, borders: Option<List<u32>>) -> Optio
 }
 
 /// The node mapping with this number, but for its name.
-#[tactic(auto, unfolding(crate::specs::Mappings::node_at))]
 pub(crate) fn node_at(
     alloc: Global,
     problems: &mut List<Problem>,
