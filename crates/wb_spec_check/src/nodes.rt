@@ -71,7 +71,6 @@ fn objects_with(
 }
 
 /// When the elements of a mapping are shown.
-
 pub(crate) fn shown_at(
     alloc: Global,
     problems: &mut List<Problem>,
@@ -141,7 +140,6 @@ fn shown_with(precondition: Option<Option<Checked>>, layer: Option<Option<u32>>)
 }
 
 /// The mappings of the elements inside the elements of this mapping, and then of those on their border.
-
 fn nested_at(
     alloc: Global,
     problems: &mut List<Problem>,
