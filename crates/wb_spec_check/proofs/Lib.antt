@@ -1,0 +1,4 @@
+pub mod Children
+pub mod Joined
+pub mod OwnNames
+pub mod Steps

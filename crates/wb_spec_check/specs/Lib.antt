@@ -1,0 +1,11 @@
+pub mod Answers
+pub mod Checked
+pub mod ChildLists
+pub mod Findings
+pub mod Mappings
+pub mod Places
+pub mod Scopes
+pub mod Tools
+pub mod Units
+pub mod Validated
+pub mod invariants

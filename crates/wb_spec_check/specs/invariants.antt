@@ -1,0 +1,5 @@
+-- What the code keeps to while it checks.
+pub mod Findings
+pub mod Known
+pub mod Reports
+pub mod Taken
