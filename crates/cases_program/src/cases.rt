@@ -1,5 +1,5 @@
 //! The cases of a file, each an object of JSON: its name, its words, its files (each the name on the shelf, and the file of
-//! `data/` that stands there) and the numbers of the calls of shelf and sink that fail.
+//! `data/` that stands there, or `spaces` and how many) and the numbers of the calls of shelf and sink that fail.
 use crate::runs::push_run;
 use std::alloc::Global;
 use wb_base::{List, Text};
@@ -98,7 +98,25 @@ fn file_of<H: Shelf>(alloc: Global, from: &mut H, pair: &[Text]) -> Result<(Byte
             let bytes = file_in(alloc, from, file.as_slice())?;
             Ok((Bytes::from_slice(alloc, name.as_slice())?, bytes))
         }
+        [name, _spaces, count] => {
+            let bytes = spaces(alloc, count.as_str())?;
+            Ok((Bytes::from_slice(alloc, name.as_slice())?, bytes))
+        }
         _ => Err(Wrong::here(alloc)),
+    }
+}
+
+/// So many spaces.
+fn spaces(alloc: Global, count: &str) -> Result<Bytes, Wrong> {
+    match count.parse::<u32>() {
+        Ok(count) => {
+            let mut bytes = Vec::new(alloc);
+            for _ in 0..count {
+                bytes.push(b' ')?;
+            }
+            Ok(Bytes::from_vec(bytes))
+        }
+        Err(_) => Err(Wrong::here(alloc)),
     }
 }
 

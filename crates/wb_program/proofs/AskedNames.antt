@@ -10,7 +10,7 @@ use Rattle.wb_program.specs.Course.{Course, gives, stops, asks, ◌>>=◌, after
 use Rattle.wb_outer.specs.Shelf.{names_of}
 use Rattle.wb_program.specs.Asked.{AsksInTurn, AsksFront}
 
-stops_anywhere : (B : Type 0) (names : List (List ℕ)) (answer : Answer) → AsksInTurn {A = B} names (stops answer)
+pub stops_anywhere : (B : Type 0) (names : List (List ℕ)) (answer : Answer) → AsksInTurn {A = B} names (stops answer)
 stops_anywhere B [] answer = tt
 stops_anywhere B (name ∷ names) answer = tt
 

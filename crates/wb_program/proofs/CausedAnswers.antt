@@ -1,5 +1,5 @@
 -- Each answer that a course comes to has its cause.
-use Rattle.std.proofs.Common.{◌≡◌, ◌∙◌, sym, ap, subst, refl, ℕ, Bool, true, false, cond, ◌||◌, List, [], ◌∷◌, Option, Some, None}
+use Rattle.std.proofs.Common.{codes, Result, Ok, Err, ◌≡◌, ◌∙◌, sym, ap, subst, refl, ℕ, Bool, true, false, cond, ◌||◌, List, [], ◌∷◌, Option, Some, None}
 use Rattle.std.proofs.Math.Bool.{or_assoc, or-true, or-false}
 use Rattle.wb_base.specs.Names.{same_name}
 use Rattle.wb_base.specs.Options as options
@@ -8,11 +8,12 @@ use Rattle.wb_outer.specs.declared.shelf.Taken.TheVariants.{Bytes, TooBig, Faile
 use Rattle.wb_outer.specs.Shelf.{has_failed}
 use Rattle.wb_outer.specs.declared.shelf.Call.{Call}
 use Rattle.wb_program.specs.declared.answer.Answer.{Answer}
-use Rattle.wb_program.specs.Answers.{not_built, cannot_read}
+use Rattle.wb_json.specs.Place.{Place}
+use Rattle.wb_program.specs.Answers.{not_built, usage, cannot_read, too_large, bad, refused, no_root_element}
 use Rattle.wb_program.specs.Course.{Course, gives, stops, asks, ◌>>=◌, after, answered, play}
 use Rattle.wb_program.specs.Causes.{IsCaused, HasCauses, some_failed}
 use Rattle.wb_program.specs.Taking.{taken, used}
-use Rattle.wb_program.specs.Opening.{or_not_built}
+use Rattle.wb_program.specs.Reading.{or_refused, or_else}
 
 -- what is known of a value that is no answer yet
 abbrev pub AnyValue : {A : Type 0} → Bool → A → Type 0
@@ -34,9 +35,33 @@ pub not_built_caused : (failed : Bool) → IsCaused failed not_built.status
 unfolding not_built
 not_built_caused failed = tt
 
+pub usage_caused : (failed : Bool) → IsCaused failed usage.status
+unfolding usage
+usage_caused failed = tt
+
 cannot_read_caused : (name : List ℕ) (failed : Bool) → failed ≡ true → IsCaused failed (cannot_read name).status
 unfolding cannot_read
 cannot_read_caused name failed is = is
+
+too_large_caused : (name : List ℕ) (failed : Bool) → IsCaused failed (too_large name).status
+unfolding too_large
+too_large_caused name failed = tt
+
+bad_caused : (name : List ℕ) (place : Place) (code : List ℕ) (failed : Bool) → IsCaused failed (bad name place code).status
+unfolding bad
+bad_caused name place code failed = tt
+
+refused_caused : (name : List ℕ) (place : Place) (code : List ℕ) (failed : Bool) → IsCaused failed (refused name place code).status
+unfolding refused
+refused_caused name place code failed = by (same_name code (codes "TooMany"))
+  where
+    by : (b : Bool) → IsCaused failed (cond b (too_large name) (bad name place code)).status
+    by true = too_large_caused name failed
+    by false = bad_caused name place code failed
+
+pub no_root_caused : (name : List ℕ) (failed : Bool) → IsCaused failed (no_root_element name).status
+unfolding no_root_element
+no_root_caused name failed = bad_caused name (codes "#/roots") (codes "NoRootElement") failed
 
 -- what a run makes of a file that it asks for
 pub causes_taken : (name : List ℕ) (failed : Bool) → HasCauses AnyValue failed (taken name)
@@ -45,12 +70,17 @@ causes_taken name failed = λ given. by given
   where
     by : (given : Taken) → HasCauses AnyValue (failed || has_failed given) (used name given)
     by (Bytes bytes) = tt
-    by TooBig = not_built_caused (failed || false)
+    by TooBig = too_large_caused name (failed || false)
     by Failed = cannot_read_caused name (failed || true) (or-true failed)
 
-pub causes_or_not_built : {A : Type 0} (Given : Bool → A → Type 0) (failed : Bool) (found : Option A) → ((x : A) → found ≡ Some x → Given failed x) → HasCauses Given failed (or_not_built found)
-causes_or_not_built Given failed (Some x) h = h x refl
-causes_or_not_built Given failed None h = not_built_caused failed
+-- what it makes of what is read there
+pub causes_or_refused : {A C : Type 0} (code_name : C → List ℕ) (name : List ℕ) (read : Result A (C × Place)) (failed : Bool) → HasCauses AnyValue failed (or_refused code_name name read)
+causes_or_refused code_name name (Ok x) failed = tt
+causes_or_refused code_name name (Err wrong) failed = refused_caused name wrong.1 (code_name wrong.0) failed
+
+pub causes_or_else : {A : Type 0} (Given : Bool → A → Type 0) (failed : Bool) (answer : Answer) (found : Option A) → IsCaused failed answer.status → ((x : A) → found ≡ Some x → Given failed x) → HasCauses Given failed (or_else answer found)
+causes_or_else Given failed answer (Some x) caused h = h x refl
+causes_or_else Given failed answer None caused h = caused
 
 ended : (failed : Bool) (given answer : Answer) → IsCaused failed given.status → Some given ≡ Some answer → IsCaused (failed || false) answer.status
 ended failed given answer h is =

@@ -1,29 +1,35 @@
 -- Laws of the course of a run: its answers have their causes, and it asks for the words' files in turn.
-use Rattle.std.proofs.Common.{◌≡◌, refl, ℕ, Bool, false, List, [], ◌∷◌, Option, Some, None, IfOk, Result, option_map, subst}
-use Rattle.std.specs.Result.{result_ok}
+use Rattle.std.proofs.Common.{◌≡◌, refl, ℕ, Bool, false, List, [], ◌∷◌, length, cond, true, Option, Some, None, IfOk, Result, Ok, Err, option_map, subst}
 use Rattle.wb_outer.specs.declared.shelf.Taken.{Taken}
 use Rattle.wb_outer.specs.declared.shelf.Taken.TheVariants.{Bytes, TooBig, Failed}
 use Rattle.wb_outer.specs.Shelf.{ShelfTold}
+use Rattle.wb_json.specs.Place.{Place}
 use Rattle.wb_metamodel.specs.Metamodel.{Metamodel}
 use Rattle.wb_metamodel.specs.Checks.{metamodel}
 use Rattle.wb_store.specs.Contents.{Contents}
+use Rattle.wb_model_json.specs.ModelFile.{model}
+use Rattle.wb_viewpoint.specs.Reading.{viewpoint}
+use Rattle.wb_viewpoint.specs.declared.content.Content.{Content}
 use Rattle.wb_program.specs.declared.status.Status.TheVariants.{Done}
 use Rattle.wb_program.specs.declared.answer.Answer.{Answer}
 use Rattle.wb_program.specs.declared.answer.Ending.{Ending}
+use Rattle.wb_program.specs.declared.opening.ModelFile.{ModelFile}
 use Rattle.wb_program.specs.declared.viewpoint.Viewpoint.{Viewpoint}
-use Rattle.wb_program.specs.Answers.{not_built, line}
-use Rattle.wb_program.specs.Words.{Sources, Task, draw, task_of, files_of}
+use Rattle.wb_program.specs.Answers.{not_built, usage, no_root_element, line}
+use Rattle.wb_program.specs.CodeNames.{metamodel_code_name, viewpoint_code_name, model_code_name}
+use Rattle.wb_program.specs.Words.{Sources, Task, check, draw, serve, big, task_of, files_of}
 use Rattle.wb_program.specs.Course.{Course, gives, stops, asks, ◌>>=◌}
-use Rattle.wb_program.specs.Causes.{HasCauses}
+use Rattle.wb_program.specs.Causes.{HasCauses, IsCaused}
 use Rattle.wb_program.specs.Asked.{AsksInTurn}
 use Rattle.wb_program.specs.Taking.{taken, used}
+use Rattle.wb_program.specs.Reading.{or_refused, or_else}
 use Rattle.wb_program.specs.Viewpoint.{thin_viewpoint}
-use Rattle.wb_program.specs.Picture.{root_element, served}
+use Rattle.wb_program.specs.Picture.{served}
 use Rattle.wb_program.specs.Steps.{Went}
 use Rattle.wb_program.specs.Runs.{IsDecision, Settles}
-use Rattle.wb_program.specs.Opening.{or_not_built, metamodel_under, viewpoint_under, model_under, thin_model, picture_of, drawing, task_course, course_for, course_of}
-use Rattle.wb_program.proofs.CausedAnswers.{AnyValue, AnswerCaused, causes_then, causes_taken, causes_or_not_built, not_built_caused}
-use Rattle.wb_program.proofs.AskedNames.{turns_then}
+use Rattle.wb_program.specs.Opening.{metamodel_under, viewpoint_under, model_under, sized, root_in, is_thin_model, pictured, picture_of, picture_from, checking, drawing, task_course, course_for, course_of}
+use Rattle.wb_program.proofs.CausedAnswers.{AnyValue, AnswerCaused, causes_then, causes_taken, causes_or_refused, causes_or_else, not_built_caused, usage_caused, no_root_caused}
+use Rattle.wb_program.proofs.AskedNames.{turns_then, stops_anywhere}
 use Rattle.wb_program.proofs.Endings.{decided, decided_at_once}
 
 -- ---- a file that is read
@@ -37,76 +43,113 @@ turns_taken name = (refl, λ given. by given)
     by TooBig = tt
     by Failed = tt
 
-turns_or_not_built : {A : Type 0} (found : Option A) → AsksInTurn [] (or_not_built found)
-turns_or_not_built (Some x) = tt
-turns_or_not_built None = tt
+turns_or_refused : {A C : Type 0} (code_name : C → List ℕ) (name : List ℕ) (read : Result A (C × Place)) → AsksInTurn [] (or_refused code_name name read)
+turns_or_refused code_name name (Ok x) = tt
+turns_or_refused code_name name (Err wrong) = tt
 
-causes_read : {A : Type 0} (name : List ℕ) (read : List ℕ → Option A) (failed : Bool) → HasCauses AnyValue failed (taken name >>= (λ bytes. or_not_built (read bytes)))
-causes_read name read failed = causes_then AnyValue failed (taken name) (λ bytes. or_not_built (read bytes)) (causes_taken name failed) (λ bytes b. causes_or_not_built AnyValue b (read bytes) (λ x is. tt))
+turns_or_else : {A : Type 0} (answer : Answer) (found : Option A) → AsksInTurn [] (or_else answer found)
+turns_or_else answer (Some x) = tt
+turns_or_else answer None = tt
 
-turns_read : {A : Type 0} (name : List ℕ) (read : List ℕ → Option A) → AsksInTurn (name ∷ []) (taken name >>= (λ bytes. or_not_built (read bytes)))
-turns_read name read = turns_then (name ∷ []) [] (taken name) (λ bytes. or_not_built (read bytes)) (turns_taken name) (λ bytes. turns_or_not_built (read bytes))
+module _ {A C : Type 0} (code_name : C → List ℕ) (name : List ℕ) (read : List ℕ → Result A (C × Place)) where
+  causes_read : (failed : Bool) → HasCauses AnyValue failed (taken name >>= (λ bytes. or_refused code_name name (read bytes)))
+  causes_read failed = causes_then AnyValue failed (taken name) (λ bytes. or_refused code_name name (read bytes)) (causes_taken name failed) (λ bytes b. causes_or_refused code_name name (read bytes) b)
+
+  turns_read : AsksInTurn (name ∷ []) (taken name >>= (λ bytes. or_refused code_name name (read bytes)))
+  turns_read = turns_then (name ∷ []) [] (taken name) (λ bytes. or_refused code_name name (read bytes)) (turns_taken name) (λ bytes. turns_or_refused code_name name (read bytes))
 
 causes_metamodel : (name : List ℕ) (failed : Bool) → HasCauses AnyValue failed (metamodel_under name)
 unfolding metamodel_under
-causes_metamodel name failed = causes_read name (λ bytes. result_ok (metamodel bytes)) failed
+causes_metamodel name failed = causes_read metamodel_code_name name metamodel failed
 
 turns_metamodel : (name : List ℕ) → AsksInTurn (name ∷ []) (metamodel_under name)
 unfolding metamodel_under
-turns_metamodel name = turns_read name (λ bytes. result_ok (metamodel bytes))
+turns_metamodel name = turns_read metamodel_code_name name metamodel
 
-causes_viewpoint : (mm : Metamodel) (name : List ℕ) (failed : Bool) → HasCauses AnyValue failed (viewpoint_under mm name)
+causes_viewpoint : (name : List ℕ) (failed : Bool) → HasCauses AnyValue failed (viewpoint_under name)
 unfolding viewpoint_under
-causes_viewpoint mm name failed = causes_read name (thin_viewpoint mm) failed
+causes_viewpoint name failed = causes_read viewpoint_code_name name viewpoint failed
 
-turns_viewpoint : (mm : Metamodel) (name : List ℕ) → AsksInTurn (name ∷ []) (viewpoint_under mm name)
+turns_viewpoint : (name : List ℕ) → AsksInTurn (name ∷ []) (viewpoint_under name)
 unfolding viewpoint_under
-turns_viewpoint mm name = turns_read name (thin_viewpoint mm)
+turns_viewpoint name = turns_read viewpoint_code_name name viewpoint
 
 causes_model : (mm : Metamodel) (name : List ℕ) (failed : Bool) → HasCauses AnyValue failed (model_under mm name)
 unfolding model_under
-causes_model mm name failed = causes_read name (thin_model mm) failed
+causes_model mm name failed = causes_read model_code_name name (λ bytes. sized (length bytes) (model mm bytes)) failed
 
 turns_model : (mm : Metamodel) (name : List ℕ) → AsksInTurn (name ∷ []) (model_under mm name)
 unfolding model_under
-turns_model mm name = turns_read name (thin_model mm)
+turns_model mm name = turns_read model_code_name name (λ bytes. sized (length bytes) (model mm bytes))
 
 -- ---- the picture
 
-drawn : (viewpoint : Viewpoint) (m : Contents) (failed : Bool) (root : Option ℕ) (answer : Answer)
-    → option_map (λ (r : ℕ). line Done (served (record { viewpoint = viewpoint; model = m; root = r }))) root ≡ Some answer → AnswerCaused failed answer
-drawn viewpoint m failed None answer is = cc
-drawn viewpoint m failed (Some root) answer is =
-    let whole : Answer = line Done (served (record { viewpoint = viewpoint; model = m; root = root })) in
+drawn : (m : Contents) (root : ℕ) (failed : Bool) (found : Option Viewpoint) (answer : Answer)
+    → option_map (λ (v : Viewpoint). line Done (served (record { viewpoint = v; model = m; root = root }))) found ≡ Some answer → AnswerCaused failed answer
+drawn m root failed None answer is = cc
+drawn m root failed (Some v) answer is =
+    let whole : Answer = line Done (served (record { viewpoint = v; model = m; root = root })) in
     let same : whole ≡ answer = cc in subst (AnswerCaused failed) same tt
 
-causes_picture : (viewpoint : Viewpoint) (m : Contents) (failed : Bool) → HasCauses AnswerCaused failed (or_not_built (picture_of viewpoint m))
-unfolding picture_of
-causes_picture viewpoint m failed = causes_or_not_built AnswerCaused failed (picture_of viewpoint m) (drawn viewpoint m failed (root_element m viewpoint.domain))
+if_thin : (failed thin : Bool) (found : Option Answer) (answer : Answer) → ((a : Answer) → found ≡ Some a → AnswerCaused failed a) → cond thin found None ≡ Some answer → AnswerCaused failed answer
+if_thin failed true found answer h is = h answer is
+if_thin failed false found answer h is = cc
+
+pictured_caused : (content : Content) (file : ModelFile) (root : ℕ) (failed : Bool) (answer : Answer) → picture_of content file root ≡ Some answer → AnswerCaused failed answer
+unfolding picture_of pictured
+pictured_caused content file root failed answer is = if_thin failed (is_thin_model file) (pictured content file.model root) answer (λ a. drawn file.model root failed (thin_viewpoint file.model.metamodel content) a) is
+
+causes_picture : (name : List ℕ) (content : Content) (file : ModelFile) (failed : Bool) → HasCauses AnswerCaused failed (picture_from name content file)
+unfolding picture_from
+causes_picture name content file failed =
+    causes_then AnswerCaused failed (or_else (no_root_element name) (root_in file.model content.domain)) _
+    (causes_or_else AnyValue failed (no_root_element name) (root_in file.model content.domain) (no_root_caused name failed) (λ root is. tt))
+    (λ root b. causes_or_else AnswerCaused b not_built (picture_of content file root) (not_built_caused b) (pictured_caused content file root b))
+
+turns_picture : (name : List ℕ) (content : Content) (file : ModelFile) → AsksInTurn [] (picture_from name content file)
+unfolding picture_from
+turns_picture name content file =
+    turns_then [] [] (or_else (no_root_element name) (root_in file.model content.domain)) _ (turns_or_else (no_root_element name) (root_in file.model content.domain))
+    (λ root. turns_or_else not_built (picture_of content file root))
 
 -- ---- the whole
+
+causes_checking : (mm_name name : List ℕ) (failed : Bool) → HasCauses AnswerCaused failed (checking mm_name name)
+unfolding checking
+causes_checking mm_name name failed =
+    causes_then AnswerCaused failed (metamodel_under mm_name) _ (causes_metamodel mm_name failed) (λ mm b.
+    causes_then AnswerCaused b (viewpoint_under name) (λ content. stops not_built) (causes_viewpoint name b) (λ content d. not_built_caused d))
+
+turns_checking : (mm_name name : List ℕ) → AsksInTurn (mm_name ∷ name ∷ []) (checking mm_name name)
+unfolding checking
+turns_checking mm_name name =
+    turns_then (mm_name ∷ []) (name ∷ []) (metamodel_under mm_name) _ (turns_metamodel mm_name) (λ mm.
+    turns_then (name ∷ []) [] (viewpoint_under name) (λ content. stops not_built) (turns_viewpoint name) (λ content. tt))
 
 causes_drawing : (sources : Sources) (failed : Bool) → HasCauses AnswerCaused failed (drawing sources)
 unfolding drawing
 causes_drawing sources failed =
     causes_then AnswerCaused failed (metamodel_under sources.metamodel) _ (causes_metamodel sources.metamodel failed) (λ mm b.
-    causes_then AnswerCaused b (viewpoint_under mm sources.viewpoint) _ (causes_viewpoint mm sources.viewpoint b) (λ viewpoint d.
-    causes_then AnswerCaused d (model_under mm sources.model) (λ m. or_not_built (picture_of viewpoint m)) (causes_model mm sources.model d) (λ m e. causes_picture viewpoint m e)))
+    causes_then AnswerCaused b (viewpoint_under sources.viewpoint) _ (causes_viewpoint sources.viewpoint b) (λ content d.
+    causes_then AnswerCaused d (model_under mm sources.model) (picture_from sources.model content) (causes_model mm sources.model d) (λ file e. causes_picture sources.model content file e)))
 
 turns_drawing : (sources : Sources) → AsksInTurn (sources.metamodel ∷ sources.viewpoint ∷ sources.model ∷ []) (drawing sources)
 unfolding drawing
 turns_drawing sources =
     turns_then (sources.metamodel ∷ []) (sources.viewpoint ∷ sources.model ∷ []) (metamodel_under sources.metamodel) _ (turns_metamodel sources.metamodel) (λ mm.
-    turns_then (sources.viewpoint ∷ []) (sources.model ∷ []) (viewpoint_under mm sources.viewpoint) _ (turns_viewpoint mm sources.viewpoint) (λ viewpoint.
-    turns_then (sources.model ∷ []) [] (model_under mm sources.model) (λ m. or_not_built (picture_of viewpoint m)) (turns_model mm sources.model) (λ m. turns_or_not_built (picture_of viewpoint m))))
+    turns_then (sources.viewpoint ∷ []) (sources.model ∷ []) (viewpoint_under sources.viewpoint) _ (turns_viewpoint sources.viewpoint) (λ content.
+    turns_then (sources.model ∷ []) [] (model_under mm sources.model) (picture_from sources.model content) (turns_model mm sources.model) (λ file. turns_picture sources.model content file)))
 
 pub causes_of_course : (words : List (List ℕ)) → HasCauses AnswerCaused false (course_of words)
 unfolding course_of
 causes_of_course words = by (task_of words)
   where
     by : (task : Option Task) → HasCauses AnswerCaused false (course_for task)
-    by None = not_built_caused false
+    by None = usage_caused false
+    by (Some (check mm_name name)) = causes_checking mm_name name false
     by (Some (draw sources)) = causes_drawing sources false
+    by (Some (serve sources connections)) = not_built_caused false
+    by (Some (big number)) = not_built_caused false
 
 pub turns_of_course : (words : List (List ℕ)) → AsksInTurn (files_of (task_of words)) (course_of words)
 unfolding course_of
@@ -114,18 +157,19 @@ turns_of_course words = by (task_of words)
   where
     by : (task : Option Task) → AsksInTurn (files_of task) (course_for task)
     by None = tt
+    by (Some (check mm_name name)) = turns_checking mm_name name
     by (Some (draw sources)) = turns_drawing sources
+    by (Some (serve sources connections)) = tt
+    by (Some (big number)) = tt
 
 -- ---- what a run decides on
 
-pub decided_task : {E : Type 0} (words : List (List ℕ)) (task : Task) (step : Result Answer Ending) (result : Result Answer E) (old new : ShelfTold)
-    → Some task ≡ task_of words → Went step (task_course task) old new → Settles step result → IsDecision result (course_of words) old new
-unfolding course_of
-decided_task words task step result old new of_words h is =
-    subst (λ (t : Option Task). IsDecision result (course_for t) old new) of_words (decided (task_course task) step result old new h is)
+pub decided_task : {E : Type 0} (due : Option Task) (task : Task) (step : Result Answer Ending) (result : Result Answer E) (old new : ShelfTold)
+    → Some task ≡ due → Went step (task_course task) old new → Settles step result → IsDecision result (course_for due) old new
+decided_task due task step result old new is h settles =
+    subst (λ (t : Option Task). IsDecision result (course_for t) old new) is (decided (task_course task) step result old new h settles)
 
-pub decided_none : {E : Type 0} (words : List (List ℕ)) (result : Result Answer E) (told : ShelfTold)
-    → None ≡ task_of words → IfOk result (λ answer. answer ≡ not_built) → IsDecision result (course_of words) told told
-unfolding course_of
-decided_none words result told of_words h =
-    subst (λ (t : Option Task). IsDecision result (course_for t) told told) of_words (decided_at_once not_built result told h)
+pub decided_none : {E : Type 0} (due : Option Task) (result : Result Answer E) (told : ShelfTold)
+    → None ≡ due → IfOk result (λ answer. answer ≡ usage) → IsDecision result (course_for due) told told
+decided_none due result told is h =
+    subst (λ (t : Option Task). IsDecision result (course_for t) told told) is (decided_at_once usage result told h)

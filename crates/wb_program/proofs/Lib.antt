@@ -6,9 +6,12 @@ pub mod FirstPlaces
 pub mod FoundSteps
 pub mod Gifts
 pub mod Lawful
+pub mod Numerals
 pub mod OnTop
 pub mod OverFiles
 pub mod OverMetamodels
 pub mod Prefixes
 pub mod Searches
 pub mod StepLemmas
+pub mod Taken
+pub mod Walks

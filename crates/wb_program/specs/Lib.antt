@@ -1,11 +1,15 @@
 pub mod Answers
 pub mod Asked
 pub mod Causes
+pub mod CodeNames
+pub mod Commands
 pub mod Course
+pub mod FeatureExpressions
 pub mod Files
 pub mod Opening
 pub mod Over
 pub mod Picture
+pub mod Reading
 pub mod Refusal
 pub mod Runs
 pub mod Search
@@ -13,5 +17,4 @@ pub mod Steps
 pub mod Taking
 pub mod Tasks
 pub mod Viewpoint
-pub mod ViewpointText
 pub mod Words

@@ -1,68 +1,95 @@
 -- The course of a run: the metamodel is taken, sized and read, then the viewpoint, then the model; then the root element is
 -- found, and the picture is drawn. The first failure ends it.
-use Rattle.std.specs.Prelude.{ℕ, nat_le, List, length, Option, Some, None, option_map, option_and_then, if◌then◌else◌}
+use Rattle.std.specs.Prelude.{ℕ, ◌&&◌, nat_le, Bool, List, length, Option, Some, None, option_map, Result, Ok, Err, if◌then◌else◌}
 use Rattle.std.specs.FinMap.{len}
-use Rattle.std.specs.Result.{result_ok}
-use Rattle.wb_metamodel.specs.Metamodel.{Metamodel}
+use Rattle.wb_base.specs.Options as options
+use Rattle.wb_json.specs.Place.{Place}
+use Rattle.wb_metamodel.specs.Metamodel.{Metamodel, class_named}
 use Rattle.wb_metamodel.specs.Checks.{metamodel}
 use Rattle.wb_store.specs.Contents.{Contents}
+use Rattle.wb_viewpoint.specs.Reading.{viewpoint}
+use Rattle.wb_viewpoint.specs.declared.content.Content.{Content}
 use Rattle.wb_model_json.specs.ModelFile.{model}
+use Rattle.wb_model_json.specs.declared.refusal.ModelCode.{ModelCode}
 use Rattle.wb_program.specs.declared.status.Status.TheVariants.{Done}
 use Rattle.wb_program.specs.declared.answer.Answer.{Answer}
-use Rattle.wb_program.specs.declared.viewpoint.Viewpoint.{Viewpoint}
-use Rattle.wb_program.specs.Words.{Sources, Task, draw, task_of}
-use Rattle.wb_program.specs.Answers.{not_built, line}
-use Rattle.wb_program.specs.Course.{Course, gives, stops, ◌>>=◌}
+use Rattle.wb_program.specs.declared.opening.ModelFile.{ModelFile}
+use Rattle.wb_program.specs.Words.{Sources, Task, check, draw, serve, big, task_of}
+use Rattle.wb_program.specs.Answers.{line, not_built, usage, no_root_element}
+use Rattle.wb_program.specs.CodeNames.{metamodel_code_name, viewpoint_code_name, model_code_name}
+use Rattle.wb_program.specs.Course.{Course, stops, ◌>>=◌}
 use Rattle.wb_program.specs.Taking.{taken}
+use Rattle.wb_program.specs.Reading.{or_refused, or_else}
 use Rattle.wb_program.specs.Files.{Files, answer_over}
 use Rattle.wb_program.specs.Viewpoint.{thin_viewpoint}
 use Rattle.wb_program.specs.Picture.{root_element, served}
 
--- what is found, or else `not built`
-abbrev pub or_not_built : {A : Type 0} → Option A → Course A
-or_not_built (Some x) = gives x
-or_not_built None = stops not_built
+-- ---- files
 
 unfoldable pub metamodel_under : List ℕ → Course Metamodel
-metamodel_under name = taken name >>= (λ bytes. or_not_built (result_ok (metamodel bytes)))
+metamodel_under name = taken name >>= (λ bytes. or_refused metamodel_code_name name (metamodel bytes))
 
-unfoldable pub viewpoint_under : Metamodel → List ℕ → Course Viewpoint
-viewpoint_under mm name = taken name >>= (λ bytes. or_not_built (thin_viewpoint mm bytes))
+unfoldable pub viewpoint_under : List ℕ → Course Content
+viewpoint_under name = taken name >>= (λ bytes. or_refused viewpoint_code_name name (viewpoint bytes))
 
--- the model, where it has at most 1,000 objects
-abbrev pub if_few : Contents → Option Contents
-if_few m = if nat_le (len m.kinds) 1000 then Some m else None
+-- a model, and how many bytes its text has
+abbrev pub sized : ℕ → Result Contents (ModelCode × Place) → Result ModelFile (ModelCode × Place)
+sized size (Ok m) = Ok (record { model = m; size = size })
+sized size (Err wrong) = Err wrong
 
--- the valid model that a text is over a metamodel, where its objects are few
-unfoldable pub small_model : Metamodel → List ℕ → Option Contents
-small_model mm bytes = option_and_then if_few (result_ok (model mm bytes))
+unfoldable pub model_under : Metamodel → List ℕ → Course ModelFile
+model_under mm name = taken name >>= (λ bytes. or_refused model_code_name name (sized (length bytes) (model mm bytes)))
 
--- the same, where the text has at most 1,048,576 bytes
-unfoldable pub thin_model : Metamodel → List ℕ → Option Contents
-thin_model mm bytes = if nat_le (length bytes) 1048576 then small_model mm bytes else None
+-- ---- the picture
 
-unfoldable pub model_under : Metamodel → List ℕ → Course Contents
-model_under mm name = taken name >>= (λ bytes. or_not_built (thin_model mm bytes))
+-- the first root that conforms to the class of this name
+unfoldable pub root_in : Contents → List ℕ → Option ℕ
+root_in m domain = options.◌>>=◌ (class_named m.metamodel domain) (root_element m)
 
--- the picture of a model under a viewpoint, and LF; none where the model has no root element
-unfoldable pub picture_of : Viewpoint → Contents → Option Answer
-picture_of viewpoint m = option_map (λ root. line Done (served (record { viewpoint = viewpoint; model = m; root = root }))) (root_element m viewpoint.domain)
+-- the text has at most 1,048,576 bytes, and the model at most 1,000 objects
+abbrev pub is_thin_model : ModelFile → Bool
+is_thin_model file = nat_le file.size 1048576 && nat_le (len file.model.kinds) 1000
+
+-- the picture of a model under a viewpoint, and LF
+unfoldable pub pictured : Content → Contents → ℕ → Option Answer
+pictured content m root =
+    option_map (λ viewpoint. line Done (served (record { viewpoint = viewpoint; model = m; root = root }))) (thin_viewpoint m.metamodel content)
+
+-- the same, where both are thin
+unfoldable pub picture_of : Content → ModelFile → ℕ → Option Answer
+picture_of content file root = if is_thin_model file then pictured content file.model root else None
+
+-- the picture from the root element of a model, which stands in the file of this name
+unfoldable pub picture_from : List ℕ → Content → ModelFile → Course Answer
+picture_from name content file = or_else (no_root_element name) (root_in file.model content.domain) >>= (λ root. or_else not_built (picture_of content file root))
+
+-- ---- tasks
+
+-- the course of `check`. Between reading and the end stands the check of the viewpoint, which is not built yet
+unfoldable pub checking : (metamodel viewpoint : List ℕ) → Course Answer
+checking metamodel viewpoint = do
+  mm ← metamodel_under metamodel
+  content ← viewpoint_under viewpoint
+  stops not_built
 
 -- the course of `draw`
 unfoldable pub drawing : Sources → Course Answer
 drawing sources = do
   mm ← metamodel_under sources.metamodel
-  viewpoint ← viewpoint_under mm sources.viewpoint
-  m ← model_under mm sources.model
-  or_not_built (picture_of viewpoint m)
+  content ← viewpoint_under sources.viewpoint
+  file ← model_under mm sources.model
+  picture_from sources.model content file
 
 -- the course of a task
 abbrev pub task_course : Task → Course Answer
+task_course (check metamodel viewpoint) = checking metamodel viewpoint
 task_course (draw sources) = drawing sources
+task_course (serve sources connections) = stops not_built
+task_course (big number) = stops not_built
 
--- the course for words of a form that is built, or of none
+-- the course for words of a form, or of none
 abbrev pub course_for : Option Task → Course Answer
-course_for None = stops not_built
+course_for None = stops usage
 course_for (Some task) = task_course task
 
 -- the course of a run on these words

@@ -39,13 +39,17 @@ pub record Went {A : Type 0} (result : Result A Ending) (course : Course A) (old
   pub gave : Gave old new calls
   pub reaches : Reaches result (after course calls)
 
--- ---- what a run does with what a private reader finds
+-- the ending is this answer, unless memory was wanting
+abbrev pub EndsWith : Ending → Answer → Type 0
+EndsWith (ending.Answer given) answer = given ≡ answer
+EndsWith ending.NoMemory answer = ⊤
+
+-- ---- what a run does with what a private step finds
 
 -- the answer ends the run, unless memory was wanting
 abbrev pub StopsWith : {A : Type 0} → Result A Ending → Answer → Type 0
 StopsWith (Ok x) answer = ⊥
-StopsWith (Err (ending.Answer given)) answer = given ≡ answer
-StopsWith (Err ending.NoMemory) answer = ⊤
+StopsWith (Err given) answer = EndsWith given answer
 
 abbrev pub Turns : {A : Type 0} → Result A Refusal → Result A Ending → Type 0
 Turns (Ok x) result = result ≡ Ok x

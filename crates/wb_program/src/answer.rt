@@ -1,6 +1,9 @@
-ghost use Rattle.std.specs.Prelude.{◌≡◌, ◌++◌, IfOk, codes};
+ghost use Rattle.std.specs.Prelude.{◌≡◌, ◌++◌, ◌∷◌, IfOk, OnOk, codes};
+ghost use Rattle.std.specs.List.{flat_map};
 ghost use Rattle.wb_program.specs.declared.answer.Ending.TheVariants.{NoMemory};
-ghost use Rattle.wb_program.specs.Answers.{not_built, cannot_read, line};
+ghost use Rattle.wb_program.specs.declared.status.Status.TheVariants.{ShelfFault, TooLarge};
+ghost use Rattle.wb_program.specs.Answers.{not_built, usage, cannot_read, too_large, bad, refused, no_root_element, line};
+ghost use Rattle.wb_program.specs.Steps.{EndsWith};
 
 use crate::status::Status;
 use std::alloc::{AllocError, AllocFailed, Global};
@@ -36,7 +39,7 @@ impl<T: Drop> From<AllocFailed<T>> for Ending {
     }
 }
 
-/// The line for words or a file that ask for more than is built.
+/// The line for words or files that ask for more than is built.
 #[tactic(auto, unfolding(crate::specs::Answers::not_built))]
 pub fn not_built(alloc: Global) -> Result<Answer, AllocError>
     ensures { IfOk result (λ answer. answer ≡ not_built) }
@@ -48,16 +51,105 @@ pub fn not_built(alloc: Global) -> Result<Answer, AllocError>
     })
 }
 
+/// The line for words of no form.
+#[tactic(auto, unfolding(crate::specs::Answers::usage))]
+pub fn usage(alloc: Global) -> Result<Answer, AllocError>
+    ensures { IfOk result (λ answer. answer ≡ usage) }
+{
+    let text = Bytes::from_slice(
+        alloc,
+        b"usage: check META SPEC | draw META SPEC MODEL | serve META SPEC MODEL [--connections N] | big N\n",
+    )?;
+    Ok(Answer {
+        status: Status::BadWords,
+        text,
+    })
+}
+
 /// The line for a file that the shelf does not give.
 #[tactic(auto, unfolding(crate::specs::Answers::cannot_read))]
 pub fn cannot_read(alloc: Global, name: &[u8]) -> Result<Answer, AllocError>
     ensures { IfOk result (λ answer. answer ≡ cannot_read name.now) }
 {
-    let mut text = Vec::from_slice(alloc, b"cannot read ")?;
+    named_line(alloc, Status::ShelfFault, b"cannot read ", name)
+}
+
+/// The line for a file that passes a limit.
+#[tactic(auto, unfolding(crate::specs::Answers::too_large))]
+pub fn too_large(alloc: Global, name: &[u8]) -> Result<Answer, AllocError>
+    ensures { IfOk result (λ answer. answer ≡ too_large name.now) }
+{
+    named_line(alloc, Status::TooLarge, b"too large ", name)
+}
+
+fn named_line(
+    alloc: Global,
+    status: Status,
+    words: &[u8],
+    name: &[u8],
+) -> Result<Answer, AllocError>
+    ensures { IfOk result (λ answer. answer ≡ line status (words.now ++ name.now)) }
+{
+    let mut text = Vec::from_slice(alloc, words)?;
     text.extend_from_slice(name)?;
     text.push(b'\n')?;
     Ok(Answer {
-        status: Status::ShelfFault,
+        status,
         text: Bytes::from_vec(text),
     })
+}
+
+/// The line for a file that is not of its form: its name, the place and the code.
+#[tactic(auto, unfolding(crate::specs::Answers::bad))]
+fn bad(alloc: Global, name: &[u8], place: &str, code: &str) -> Result<Answer, AllocError>
+    ensures { IfOk result (λ answer. answer ≡ bad name.now place.now code.now) }
+{
+    let mut text = Vec::from_slice(alloc, b"bad ")?;
+    text.extend_from_slice(name)?;
+    push_word(&mut text, place)?;
+    push_word(&mut text, code)?;
+    text.push(b'\n')?;
+    Ok(Answer {
+        status: Status::BadInput,
+        text: Bytes::from_vec(text),
+    })
+}
+
+/// Puts a space and a word last.
+fn push_word(text: &mut Vec<u8>, word: &str) -> Result<(), AllocError>
+    ensures { OnOk result (text.new.items ≡ text.old.items ++ codes " " ++ word.now) }
+{
+    text.push(b' ')?;
+    text.extend_from_slice(word.as_bytes())?;
+    Ok(())
+}
+
+/// The line for a model without a root element.
+#[tactic(auto, unfolding(crate::specs::Answers::no_root_element))]
+pub fn no_root_element(alloc: Global, name: &[u8]) -> Result<Answer, AllocError>
+    ensures { IfOk result (λ answer. answer ≡ no_root_element name.now) }
+{
+    bad(alloc, name, "#/roots", "NoRootElement")
+}
+
+/// The line for a file that is refused with a code at a place.
+#[tactic(auto, unfolding(crate::specs::Answers::refused))]
+fn refused(alloc: Global, name: &[u8], place: &str, code: &str) -> Result<Answer, AllocError>
+    ensures { IfOk result (λ answer. answer ≡ refused name.now place.now code.now) }
+{
+    if code == "TooMany" {
+        too_large(alloc, name)
+    } else {
+        bad(alloc, name, place, code)
+    }
+}
+
+/// The ending by a file that is refused.
+pub fn refusal(alloc: Global, name: &[u8], place: &str, code: &str) -> Ending
+    ensures { EndsWith result (refused name.now place.now code.now) }
+{
+    match refused(alloc, name, place, code) {
+        Ok(answer) => Ending::Answer(answer),
+        Err(_) => Ending::NoMemory,
+    }
 }

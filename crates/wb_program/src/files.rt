@@ -2,7 +2,7 @@ ghost use Rattle.wb_program.specs.Taking.{taken, used};
 ghost use Rattle.wb_program.specs.Steps.{Went, Reaches};
 ghost use Rattle.std.specs.Prelude.{Some};
 
-use crate::answer::{Ending, cannot_read, not_built};
+use crate::answer::{Ending, cannot_read, too_large};
 use std::alloc::Global;
 use wb_outer::{Bytes, Shelf, Taken};
 
@@ -20,7 +20,7 @@ fn use_taken(alloc: Global, taken: Taken, name: &[u8]) -> Result<Bytes, Ending>
 {
     match taken {
         Taken::Bytes(bytes) => Ok(bytes),
-        Taken::TooBig => Err(Ending::Answer(not_built(alloc)?)),
+        Taken::TooBig => Err(Ending::Answer(too_large(alloc, name)?)),
         Taken::Failed => Err(Ending::Answer(cannot_read(alloc, name)?)),
     }
 }

@@ -3,18 +3,22 @@
 
 mod answer;
 mod candidates;
+mod checking;
+mod code_names;
+mod commands;
 mod drawing;
 mod expressions;
+mod feature_expressions;
 mod files;
+mod forms;
 mod nodes;
 mod opening;
 mod picture;
 mod refusal;
 mod run;
 mod status;
+mod thin;
 mod viewpoint;
-mod viewpoint_reader;
-mod viewpoint_text;
 mod words;
 
 pub use run::workbench;

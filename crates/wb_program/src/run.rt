@@ -1,17 +1,18 @@
-ghost use Rattle.std.specs.Prelude.{◌≡◌, false, Some, IfSome};
+ghost use Rattle.std.specs.Prelude.{◌≡◌, false, Some, IfSome, map};
 ghost use Rattle.wb_outer.specs.Faults.{Rose};
 ghost use Rattle.wb_program.specs.declared.status.Status.TheVariants.{ShelfFault, SinkFault, KeeperFault, DoorFault};
 ghost use Rattle.wb_program.specs.Words as asked;
 ghost use Rattle.wb_program.specs.Tasks.{shown};
-ghost use Rattle.wb_program.specs.Opening.{course_of, task_course, answer_to};
+ghost use Rattle.wb_program.specs.Opening.{course_of, course_for, task_course, answer_to};
 ghost use Rattle.wb_program.specs.Asked.{AsksFront};
 ghost use Rattle.wb_program.specs.Steps.{Went};
 ghost use Rattle.wb_program.specs.Runs.{Runs, IsOfFiles, IsPrinted, IsDecision, Settles};
 
-use crate::answer::{Answer, Ending, not_built};
+use crate::answer::{Answer, Ending, not_built, usage};
+use crate::checking::check;
 use crate::drawing::draw;
 use crate::status::Status;
-use crate::words::{Task, task_of};
+use crate::words::{Task, task_of, texts_of};
 use std::alloc::{AllocError, Global};
 use wb_outer::{Bytes, Door, Keeper, Shelf, Sink, Steps, Wrote};
 
@@ -61,12 +62,23 @@ fn run_words<H: Shelf, O: Sink>(
 }
 
 /// What a run ends with, before it is printed.
+#[tactic(auto, unfolding(crate::specs::Words::task_of))]
 fn decide<H: Shelf>(alloc: Global, words: &[Bytes], shelf: &mut H) -> Result<Answer, AllocError>
     ensures { IsDecision result (course_of words.now) (H.told shelf.old) (H.told shelf.new) }
 {
-    match task_of(words) {
+    match texts_of(alloc, words)? {
+        Some(texts) => decide_on(alloc, texts.as_slice(), shelf),
+        None => usage(alloc),
+    }
+}
+
+/// The same for words that are UTF-8.
+fn decide_on<H: Shelf>(alloc: Global, words: &[&str], shelf: &mut H) -> Result<Answer, AllocError>
+    ensures { IsDecision result (course_for (asked.task_in (map (λ word. word.now) words.now))) (H.told shelf.old) (H.told shelf.new) }
+{
+    match task_of(alloc, words)? {
         Some(task) => conclude(perform(alloc, shelf, task)),
-        None => not_built(alloc),
+        None => usage(alloc),
     }
 }
 
@@ -75,7 +87,9 @@ fn perform<H: Shelf>(alloc: Global, shelf: &mut H, task: Task<'_>) -> Result<Ans
     ensures { Went result (task_course (shown task.entry)) (H.told shelf.old) (H.told shelf.new) }
 {
     match task {
+        Task::Check(metamodel, viewpoint) => check(alloc, shelf, metamodel, viewpoint),
         Task::Draw(sources) => draw(alloc, shelf, sources),
+        Task::Serve(..) | Task::Big(_) => Err(Ending::Answer(not_built(alloc)?)),
     }
 }
 

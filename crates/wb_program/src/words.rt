@@ -1,8 +1,10 @@
-ghost use Rattle.std.specs.Prelude.{◌≡◌, option_map};
-ghost use Rattle.wb_program.specs.Words as commands;
+ghost use Rattle.std.specs.Prelude.{◌≡◌, option_map, map, IfOk};
+ghost use Rattle.wb_program.specs.Words as asked;
 ghost use Rattle.wb_program.specs.Tasks.{shown};
 
-use wb_base::is_text;
+use crate::commands::{big_task, check_task, draw_sources, limited_serve_task, serve_sources};
+use crate::forms::{MOST_CONNECTIONS, is_big, is_check, is_draw, is_limited_serve, is_serve};
+use std::alloc::{AllocError, Global};
 use wb_outer::Bytes;
 
 /// The files of a picture, by their names.
@@ -16,34 +18,55 @@ pub struct Sources<'a> {
 /// What the words ask for.
 #[derive(Clone, Copy)]
 pub enum Task<'a> {
+    /// The problems of a viewpoint over a metamodel: the names of both.
+    Check(&'a [u8], &'a [u8]),
     /// The picture of a model under a viewpoint.
     Draw(Sources<'a>),
+    /// A server of that picture, for so many connections.
+    Serve(Sources<'a>, u32),
+    /// A large session, over so many books.
+    Big(u32),
 }
 
-/// What the words ask for, if they are of a form that is built.
-#[tactic(auto, unfolding(crate::specs::Words::task_of))]
-pub fn task_of(words: &[Bytes]) -> Option<Task<'_>>
-    ensures { option_map shown result ≡ commands.task_of words.now }
+/// The words as texts, if they are UTF-8.
+pub fn texts_of<'a>(alloc: Global, words: &'a [Bytes]) -> Result<Option<Vec<&'a str>>, AllocError>
+    ensures { IfOk result (λ texts. option_map (λ found. map (λ text. text.now) found.items) texts ≡ asked.texts_of words.now) }
 {
-    if words.len() == 4
-        && words[0].as_slice() == b"draw".as_slice()
-        && is_file_name(words[1].as_slice())
-        && is_file_name(words[2].as_slice())
-        && is_file_name(words[3].as_slice())
-    {
-        return Some(Task::Draw(Sources {
-            metamodel: words[1].as_slice(),
-            viewpoint: words[2].as_slice(),
-            model: words[3].as_slice(),
-        }));
+    let mut texts = Vec::new(alloc);
+    for word in words {
+        match text_in(word.as_slice()) {
+            Some(text) => texts.push(text)?,
+            None => return Ok(None),
+        }
     }
-    None
+    Ok(Some(texts))
 }
 
-/// Is this UTF-8, not empty, and without `-` in front?
-#[tactic(auto, unfolding(crate::specs::Words::is_file_name))]
-fn is_file_name(name: &[u8]) -> bool
-    ensures { result ≡ commands.is_file_name name.now }
+fn text_in(word: &[u8]) -> Option<&str>
+    ensures { option_map (λ text. text.now) result ≡ asked.text_in word.now }
 {
-    is_text(name) && !name.is_empty() && name[0] != b'-'
+    match std::str::from_utf8(word) {
+        Ok(text) => Some(text),
+        Err(_) => None,
+    }
+}
+
+/// What the words ask for, if they are of a form. Words of a form are taken apart by `clap`.
+#[tactic(auto, unfolding(crate::specs::Words::task_in))]
+pub fn task_of<'a>(alloc: Global, words: &'a [&'a str]) -> Result<Option<Task<'a>>, AllocError>
+    ensures { IfOk result (λ task. option_map shown task ≡ asked.task_in (map (λ word. word.now) words.now)) }
+{
+    if is_check(words) {
+        Ok(Some(check_task(alloc, words)?))
+    } else if is_draw(words) {
+        Ok(Some(Task::Draw(draw_sources(alloc, words)?)))
+    } else if is_serve(words) {
+        Ok(Some(Task::Serve(serve_sources(alloc, words)?, MOST_CONNECTIONS)))
+    } else if is_limited_serve(words) {
+        Ok(Some(limited_serve_task(alloc, words)?))
+    } else if is_big(words) {
+        Ok(Some(big_task(alloc, words)?))
+    } else {
+        Ok(None)
+    }
 }
