@@ -1,6 +1,7 @@
 pub mod Answers
 pub mod Asked
 pub mod Causes
+pub mod Checking
 pub mod CodeNames
 pub mod Commands
 pub mod Course

@@ -9,6 +9,7 @@ use Rattle.wb_metamodel.specs.Checks.{metamodel}
 use Rattle.wb_store.specs.Contents.{Contents}
 use Rattle.wb_viewpoint.specs.Reading.{viewpoint}
 use Rattle.wb_viewpoint.specs.declared.content.Content.{Content}
+use Rattle.wb_spec_check.specs.Checked.{Specification, checked}
 use Rattle.wb_model_json.specs.ModelFile.{model}
 use Rattle.wb_model_json.specs.declared.refusal.ModelCode.{ModelCode}
 use Rattle.wb_program.specs.declared.status.Status.TheVariants.{Done}
@@ -17,7 +18,8 @@ use Rattle.wb_program.specs.declared.opening.ModelFile.{ModelFile}
 use Rattle.wb_program.specs.Words.{Sources, Task, check, draw, serve, big, task_of}
 use Rattle.wb_program.specs.Answers.{line, not_built, usage, no_root_element}
 use Rattle.wb_program.specs.CodeNames.{metamodel_code_name, viewpoint_code_name, model_code_name}
-use Rattle.wb_program.specs.Course.{Course, stops, ◌>>=◌}
+use Rattle.wb_program.specs.Checking.{check_answer, or_bad}
+use Rattle.wb_program.specs.Course.{Course, gives, stops, ◌>>=◌}
 use Rattle.wb_program.specs.Taking.{taken}
 use Rattle.wb_program.specs.Reading.{or_refused, or_else}
 use Rattle.wb_program.specs.Files.{Files, answer_over}
@@ -31,6 +33,10 @@ metamodel_under name = taken name >>= (λ bytes. or_refused metamodel_code_name 
 
 unfoldable pub viewpoint_under : List ℕ → Course Content
 viewpoint_under name = taken name >>= (λ bytes. or_refused viewpoint_code_name name (viewpoint bytes))
+
+-- the viewpoint, checked over the metamodel
+unfoldable pub checked_under : Metamodel → List ℕ → Course Specification
+checked_under mm name = viewpoint_under name >>= (λ content. or_bad name content (checked mm content))
 
 -- a model, and how many bytes its text has
 abbrev pub sized : ℕ → Result Contents (ModelCode × Place) → Result ModelFile (ModelCode × Place)
@@ -65,20 +71,20 @@ picture_from name content file = or_else (no_root_element name) (root_in file.mo
 
 -- ---- tasks
 
--- the course of `check`. Between reading and the end stands the check of the viewpoint, which is not built yet
+-- the course of `check`
 unfoldable pub checking : (metamodel viewpoint : List ℕ) → Course Answer
 checking metamodel viewpoint = do
   mm ← metamodel_under metamodel
   content ← viewpoint_under viewpoint
-  stops not_built
+  gives (check_answer (checked mm content))
 
 -- the course of `draw`
 unfoldable pub drawing : Sources → Course Answer
 drawing sources = do
   mm ← metamodel_under sources.metamodel
-  content ← viewpoint_under sources.viewpoint
+  spec ← checked_under mm sources.viewpoint
   file ← model_under mm sources.model
-  picture_from sources.model content file
+  picture_from sources.model spec.0 file
 
 -- the course of a task
 abbrev pub task_course : Task → Course Answer
