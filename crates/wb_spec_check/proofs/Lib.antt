@@ -1,2 +1,2 @@
-pub mod Paths
+pub mod Joined
 pub mod Rows

@@ -1,9 +1,30 @@
 -- What a step of the check tells: its value, and its problems behind those that were told before.
-use Rattle.std.specs.Prelude.{◌≡◌, ⊤, List, ◌++◌, Option, Result, Ok, Err}
-use Rattle.wb_spec_check.specs.Validated.{Validated, problems_of, value_of}
+use Rattle.std.specs.Prelude.{◌≡◌, ⊤, ℕ, take, List, [], ◌∷◌, ◌++◌, Option, Some, None, Result, Ok, Err}
+use Rattle.wb_spec_check.specs.Validated.{Validated, each, problems_of, value_of}
 use Rattle.wb_spec_check.specs.declared.problem.Problem.{Problem}
+
+-- it gives the value that was found, if one was, and adds the problems that were found
+pub record Tells {A : Type 0} (found : Validated A) (old : List Problem) (given : Option A) (new : List Problem) : Type 0 where
+  pub value : given ≡ value_of found
+  pub problems : new ≡ old ++ problems_of found
 
 -- for want of memory it may tell anything
 abbrev pub Reports : {A E : Type 0} → Validated A → List Problem → Result (Option A) E → List Problem → Type 0
-Reports found old (Ok value) new = (value ≡ value_of found) × (new ≡ old ++ problems_of found)
+Reports found old (Ok given) new = Tells found old given new
 Reports found old (Err e) new = ⊤
+
+-- the function of the value, where both are there
+abbrev pub ◌<&>◌ : {A B : Type 0} → Option (A → B) → Option A → Option B
+None <&> x = None
+(Some f) <&> None = None
+(Some f) <&> (Some x) = Some (f x)
+
+infixl 20 ◌<&>◌
+
+-- one more value, where all are there
+abbrev pub and_then : {A : Type 0} → Option (List A) → Option A → Option (List A)
+and_then xs x = Some (λ ys y. ys ++ y ∷ []) <&> xs <&> x
+
+-- the first items of a list were checked, and told this
+pub record Gathers {A B : Type 0} (check : ℕ → A → Validated B) (items : List A) (checked : ℕ) (old : List Problem) (given : Option (List B)) (new : List Problem) : Type 0 where
+  pub so_far : Tells (each check (take checked items)) old given new
