@@ -1,17 +1,18 @@
-ghost use Rattle.std.specs.Prelude.{◌≡◌, ◌∷◌, [], option_map, option_and_then, codes};
+ghost use Rattle.std.specs.Prelude.{◌≡◌, ◌∷◌, [], option_map, option_and_then, codes, OnOk};
 ghost use Rattle.wb_spec_check.specs.Findings.{feature_found, made_class, reference_found};
 ghost use Rattle.wb_spec_check.specs.Mappings.{expression_at};
 ghost use Rattle.wb_spec_check.specs.Places.{◌/◌, place_of};
 ghost use Rattle.wb_spec_check.specs.Tools.{action_at, operation_at, operations_from, with_class, with_expression, maybe_expression};
 ghost use Rattle.wb_spec_check.specs.Validated.{good, ◌<*>◌, at, optional};
 ghost use Rattle.wb_spec_check.specs.invariants.Reports.{Reports};
-ghost use Rattle.wb_spec_check.specs.invariants.Rows.{ReportsRows};
+ghost use Rattle.wb_spec_check.specs.invariants.Rows.{TellsRows};
 ghost use Rattle.wb_viewpoint.specs.View.{tree_of, trees_of};
 
 use crate::checked_tools::CheckedOperation;
 use crate::names::Names;
 use crate::path::Path;
 use crate::problem::Problem;
+use crate::reports::gather;
 use crate::scopes::InnerScope;
 use crate::spots::{expression_at, name_at, optional_expression_at};
 use std::alloc::{AllocError, Global};
@@ -21,7 +22,7 @@ use wb_json::Name;
 use wb_metamodel::ClassId;
 use wb_viewpoint::{Action, ExpressionText, Operation};
 
-/// Operations, each before those inside it: their rows go behind those before. Are all good?
+/// Operations, each before those inside it: their rows go behind those before, where all are good.
 #[cycle(operations)]
 pub(crate) fn operations_at(
     alloc: Global,
@@ -30,17 +31,15 @@ pub(crate) fn operations_at(
     scope: &[Text],
     path: &Path<'_>,
     operations: &[Operation],
-    rows: &mut List<CheckedOperation>,
-) -> Result<bool, AllocError>
-    ensures { ReportsRows (operations_from names.now.0 scope.now (place_of path.now) 0 (trees_of operations.now)) problems.old rows.old result problems.new rows.new }
+    rows: &mut Option<List<CheckedOperation>>,
+) -> Result<(), AllocError>
+    ensures { OnOk result (TellsRows (operations_from names.now.0 scope.now (place_of path.now) 0 (trees_of operations.now)) problems.old rows.old rows.new problems.new) }
 {
-    let mut all = true;
     for (number, operation) in operations.iter().enumerate() {
         let place = &Path::Item(&*path, number);
-        let is_good = operation_at(alloc, problems, names, scope, place, operation, rows)?;
-        all = all && is_good;
+        operation_at(alloc, problems, names, scope, place, operation, rows)?;
     }
-    Ok(all)
+    Ok(())
 }
 
 /// An operation, and those inside it.
@@ -52,13 +51,14 @@ fn operation_at(
     scope: &[Text],
     path: &Path<'_>,
     operation: &Operation,
-    rows: &mut List<CheckedOperation>,
-) -> Result<bool, AllocError>
-    ensures { ReportsRows (operation_at names.now.0 scope.now (place_of path.now) (tree_of operation.now)) problems.old rows.old result problems.new rows.new }
+    rows: &mut Option<List<CheckedOperation>>,
+) -> Result<(), AllocError>
+    ensures { OnOk result (TellsRows (operation_at names.now.0 scope.now (place_of path.now) (tree_of operation.now)) problems.old rows.old rows.new problems.new) }
 {
-    let is_good = row_at(alloc, problems, names, scope, path, &operation.action, rows)?;
+    let row = action_at(alloc, problems, names, scope, path, &operation.action)?;
+    gather(rows, row)?;
     let inner = InnerScope::new(alloc, scope, &operation.action)?;
-    let all = operations_at(
+    operations_at(
         alloc,
         problems,
         names,
@@ -66,33 +66,11 @@ fn operation_at(
         &Path::Member(&*path, "do"),
         operation.inside.as_slice(),
         rows,
-    )?;
-    Ok(is_good && all)
-}
-
-/// The row of an operation, without those inside it.
-fn row_at(
-    alloc: Global,
-    problems: &mut List<Problem>,
-    names: &Names<'_>,
-    scope: &[Text],
-    path: &Path<'_>,
-    action: &Action,
-    rows: &mut List<CheckedOperation>,
-) -> Result<bool, AllocError>
-    ensures { ReportsRows (good (λ row. row ∷ []) <*> action_at names.now.0 scope.now (place_of path.now) action.now) problems.old rows.old result problems.new rows.new }
-{
-    match action_at(alloc, problems, names, scope, path, action)? {
-        Some(row) => {
-            rows.push(row)?;
-            Ok(true)
-        }
-        None => Ok(false),
-    }
+    )
 }
 
 /// What an operation does, with what it names.
-#[tactic(auto, unfolding(crate::specs::Tools::action_at))]
+#[tactic(auto, unfolding(crate::specs::Tools::action_at, crate::specs::Places::place_of))]
 fn action_at(
     alloc: Global,
     problems: &mut List<Problem>,
@@ -167,6 +145,7 @@ fn create_at(
 }
 
 /// An operation that sets or adds to a feature.
+#[tactic(auto, unfolding(crate::specs::Places::place_of))]
 fn set_at(
     alloc: Global,
     problems: &mut List<Problem>,
@@ -185,6 +164,7 @@ fn set_at(
 }
 
 /// An operation that takes a value of a feature, or all of them.
+#[tactic(auto, unfolding(crate::specs::Places::place_of))]
 fn unset_at(
     alloc: Global,
     problems: &mut List<Problem>,
@@ -204,6 +184,7 @@ fn unset_at(
 }
 
 /// An operation that moves the context.
+#[tactic(auto, unfolding(crate::specs::Places::place_of))]
 fn move_at(
     alloc: Global,
     problems: &mut List<Problem>,
@@ -221,6 +202,7 @@ fn move_at(
     Ok(row_where(known, with_expression(checked)))
 }
 
+#[tactic(auto, unfolding(crate::specs::Places::place_of))]
 fn feature_at(
     alloc: Global,
     problems: &mut List<Problem>,
@@ -235,6 +217,7 @@ fn feature_at(
     name_at(alloc, problems, &place, name, names.feature(name))
 }
 
+#[tactic(auto, unfolding(crate::specs::Places::place_of))]
 fn reference_at(
     alloc: Global,
     problems: &mut List<Problem>,
@@ -250,6 +233,7 @@ fn reference_at(
 }
 
 /// A class of which objects can be made.
+#[tactic(auto, unfolding(crate::specs::Places::place_of))]
 fn class_at(
     alloc: Global,
     problems: &mut List<Problem>,
