@@ -1,4 +1,6 @@
 -- What the code keeps to while it checks.
 pub mod Findings
+pub mod InnerScopes
 pub mod Known
 pub mod Reports
+pub mod Rows

@@ -23,7 +23,6 @@ mod path;
 mod problem;
 mod reports;
 mod roles;
-mod scope_texts;
 mod scopes;
 mod spots;
 mod tools;
