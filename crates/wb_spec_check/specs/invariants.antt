@@ -4,3 +4,4 @@ pub mod InnerScopes
 pub mod Known
 pub mod Reports
 pub mod Rows
+pub mod Taken
