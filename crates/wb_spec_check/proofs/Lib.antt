@@ -1,4 +1,5 @@
 pub mod Checks
+pub mod Children
 pub mod Joined
 pub mod OwnNames
 pub mod Rows

@@ -27,9 +27,16 @@ pub record ChildList : Type 0 where
 abbrev pub top_list : Content → ChildList
 top_list content = record { role = role.Top; names = content.top }
 
+-- the children and the borders of the mapping of this number
+abbrev pub children_list : ℕ → NodeMapping → ChildList
+children_list n node = record { role = role.Children n node.kind; names = node.children }
+
+abbrev pub borders_list : NodeMapping → ChildList
+borders_list node = record { role = role.Borders; names = node.borders }
+
 -- the lists of a mapping, which has this number: children and then borders
 abbrev pub lists_of_form : ℕ → MappingForm → List ChildList
-lists_of_form n (NodeForm node) = record { role = role.Children n node.kind; names = node.children } ∷ record { role = role.Borders; names = node.borders } ∷ []
+lists_of_form n (NodeForm node) = children_list n node ∷ borders_list node ∷ []
 lists_of_form n (EdgeForm edge) = []
 
 -- the lists that the walk meets before it comes to the mapping of this number

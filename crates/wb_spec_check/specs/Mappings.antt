@@ -16,7 +16,7 @@ use Rattle.wb_viewpoint.specs.declared.objects.Objects.{Objects}
 use Rattle.wb_viewpoint.specs.declared.styles.ConditionalStyle.{ConditionalStyle}
 use Rattle.wb_viewpoint.specs.declared.styles.Looks.{Looks}
 use Rattle.wb_viewpoint.specs.declared.styles.Style.{Style}
-use Rattle.wb_spec_check.specs.ChildLists.{ChildList, lists_before, child_found}
+use Rattle.wb_spec_check.specs.ChildLists.{ChildList, children_list, borders_list, lists_before, child_found}
 use Rattle.wb_spec_check.specs.Findings.{class_found, layer_found, end_found, own_name}
 use Rattle.wb_spec_check.specs.Places.{◌/◌, ◌!◌}
 use Rattle.wb_spec_check.specs.Scopes.{own_scope, container_scope}
@@ -30,7 +30,6 @@ use Rattle.wb_spec_check.specs.declared.groups.Shown.{Shown}
 use Rattle.wb_spec_check.specs.declared.groups.Nested.{Nested}
 use Rattle.wb_spec_check.specs.declared.groups.Ends.{Ends}
 use Rattle.wb_spec_check.specs.declared.checked_mappings.CheckedSource.{CheckedSource}
-use Rattle.wb_spec_check.specs.declared.roles.Role.TheVariants as role
 
 -- ---- expressions, and lists of names
 
@@ -76,28 +75,31 @@ objects_at mm place objects =
     <*> optional (expression_at mm own_scope (place / codes "candidates")) objects.candidates
 
 -- a mapping that names no layer is on the first
+abbrev pub shown_with : Option (Origin × List (List ℕ)) → Option ℕ → Shown
+shown_with precondition layer = record { precondition = precondition; layer = unwrap_or layer 0 }
+
 unfoldable pub shown_at : Metamodel → Content → List (List ℕ) → Place → Mapping → Validated Shown
 shown_at mm content scope place mapping =
-    good (λ precondition layer. record { precondition = precondition; layer = unwrap_or layer 0 })
+    good shown_with
     <*> optional (expression_at mm scope (place / codes "precondition")) mapping.precondition
     <*> optional (λ name. at (place / codes "layer") (layer_found content name)) mapping.layer
+
+abbrev pub nested_with : List ℕ → List ℕ → Nested
+nested_with children borders = record { children = children; borders = borders }
 
 -- the children and the borders of the mapping of this number
 unfoldable pub nested_at : Content → ℕ → Place → NodeMapping → Validated Nested
 nested_at content n place node =
-    good (λ children borders. record { children = children; borders = borders })
+    good nested_with
     <*> children_at content (lists_before content n) (place / codes "children") (children_list n node)
     <*> children_at content (lists_before content n ++ (children_list n node ∷ [])) (place / codes "borders") (borders_list node)
-  where
-    children_list : ℕ → NodeMapping → ChildList
-    children_list n node = record { role = role.Children n node.kind; names = node.children }
 
-    borders_list : NodeMapping → ChildList
-    borders_list node = record { role = role.Borders; names = node.borders }
+abbrev pub ends_with : List ℕ → List ℕ → Ends
+ends_with sources targets = record { sources = sources; targets = targets }
 
 unfoldable pub both_ends_at : Content → Place → EdgeMapping → Validated Ends
 both_ends_at content place edge =
-    good (λ sources targets. record { sources = sources; targets = targets })
+    good ends_with
     <*> ends_at content (place / codes "sources") edge.ends.sources
     <*> ends_at content (place / codes "targets") edge.ends.targets
 
