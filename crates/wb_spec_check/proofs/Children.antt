@@ -1,6 +1,6 @@
 -- The names of child lists, as they are walked.
-use Rattle.std.proofs.Common.{◌≡◌, ℕ, ◌+◌, ◌<◌, Bool, true, false, not, ◌||◌, ◌&&◌, List, [], ◌∷◌, ◌++◌, length, get_or, take, Option, Some, None, Result, Ok, Err, refl, sym, ap, ◌∙◌, subst, eqb, append_assoc, if◌then◌else◌, arith}
-use Rattle.std.specs.List.{list_any, flat_map, filter, enumerate_from}
+use Rattle.std.proofs.Common.{◌≡◌, ℕ, ◌+◌, ◌<◌, Bool, true, false, not, ◌||◌, ◌&&◌, List, [], ◌∷◌, ◌++◌, length, get_or, take, Some, None, Result, Ok, Err, refl, sym, ap, ◌∙◌, subst, eqb, append_assoc, if◌then◌else◌, arith}
+use Rattle.std.specs.List.{list_any, flat_map, enumerate_from}
 use Rattle.std.specs.Option.{is_some, option_or}
 use Rattle.std.proofs.lemmas.Bool.{ne_eqb}
 use Rattle.std.proofs.lemmas.Grind.{flat_map-append}
@@ -16,9 +16,9 @@ use Rattle.wb_expressions.specs.declared.problem.ProblemCode.{ProblemCode}
 use Rattle.wb_expressions.specs.declared.problem.ProblemCode.TheVariants as c
 use Rattle.wb_viewpoint.specs.declared.content.Content.{Content}
 use Rattle.wb_viewpoint.specs.declared.mappings.Mapping.{Mapping}
-use Rattle.wb_viewpoint.specs.declared.mappings.MappingForm.TheVariants.{Node as NodeForm, Edge as EdgeForm}
+use Rattle.wb_viewpoint.specs.declared.mappings.MappingForm.TheVariants.{Node as NodeForm}
 use Rattle.wb_viewpoint.specs.declared.nodes.NodeMapping.{NodeMapping}
-use Rattle.wb_spec_check.specs.ChildLists.{ChildList, borders_list, child_found, children_list, fits_mapping, is_empty, is_own, is_reused, lists_before, lists_of_form, names_elsewhere}
+use Rattle.wb_spec_check.specs.ChildLists.{ChildList, child_found, children_list, fits_mapping, is_empty, is_own, is_reused, lists_before, lists_of_form, names_elsewhere}
 use Rattle.wb_spec_check.specs.Findings.{mapping_found, problem_if}
 use Rattle.wb_spec_check.specs.Validated.{Finding}
 use Rattle.wb_spec_check.specs.declared.child_lists.Taken.{Taken}

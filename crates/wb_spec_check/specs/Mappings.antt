@@ -20,7 +20,7 @@ use Rattle.wb_spec_check.specs.ChildLists.{ChildList, children_list, borders_lis
 use Rattle.wb_spec_check.specs.Findings.{class_found, layer_found, end_found, own_name}
 use Rattle.wb_spec_check.specs.Places.{◌/◌, ◌!◌}
 use Rattle.wb_spec_check.specs.Scopes.{own_scope, container_scope}
-use Rattle.wb_spec_check.specs.Validated.{Validated, good, bad, ◌<*>◌, at, optional, each}
+use Rattle.wb_spec_check.specs.Validated.{Validated, good, ◌<*>◌, at, optional, each}
 use Rattle.wb_spec_check.specs.declared.checked_looks.CheckedStyle.{CheckedStyle}
 use Rattle.wb_spec_check.specs.declared.checked_looks.CheckedLooks.{CheckedLooks}
 use Rattle.wb_spec_check.specs.declared.checked_mappings.CheckedObjects.{CheckedObjects}

@@ -22,7 +22,7 @@ use wb_expressions::ProblemCode;
 use wb_json::Name;
 use wb_viewpoint::Content;
 
-/// The names that stand in the lists that were walked, but for the children of a mapping that it is itself among.
+/// The names in the lists that were walked. That of a mapping among its own children does not count.
 #[derive(Drop)]
 pub(crate) struct Taken {
     names: NumberedNames,
@@ -51,7 +51,7 @@ fn has(names: &NumberedNames, name: &Name) -> bool
     names.get(name.as_str().as_bytes()).is_some()
 }
 
-/// The mappings of a list of names, whose names are taken then.
+/// The mappings that a list names. Its names are taken then.
 pub(crate) fn children_at(
     alloc: Global,
     problems: &mut List<Problem>,

@@ -122,7 +122,6 @@ fn source_finder_at(
 }
 
 /// An edge mapping, but for its name.
-#[tactic(auto, unfolding(crate::specs::Mappings::edge_at, crate::specs::Places::place_of))]
 pub(crate) fn edge_at(
     alloc: Global,
     problems: &mut List<Problem>,

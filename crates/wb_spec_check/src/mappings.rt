@@ -11,11 +11,10 @@ use crate::child_lists::Taken;
 use crate::edges::edge_at;
 use crate::names::Names;
 use crate::nodes::node_at;
-use crate::own_names::own_name;
 use crate::path::Path;
 use crate::problem::Problem;
 use crate::reports::gather;
-use crate::spots::name_at;
+use crate::spots::own_name_at;
 use std::alloc::{AllocError, Global};
 use wb_base::List;
 use wb_viewpoint::{Mapping, MappingForm};
@@ -53,7 +52,6 @@ pub(crate) fn mappings_at(
 }
 
 /// The mapping with this number: its name, and then what its form has.
-#[tactic(auto, unfolding(crate::specs::Mappings::mapping_at, crate::specs::Places::place_of))]
 fn mapping_at(
     alloc: Global,
     problems: &mut List<Problem>,
@@ -67,17 +65,13 @@ fn mapping_at(
     ensures reports { Reports (mapping_at names.now.0 names.now.1 number (place_of path.now) mapping.now) problems.old result problems.new }
     ensures takes { OnOk result (TakenBy names.now.1 (lists_before names.now.1 number ++ lists_of_form number mapping.now.form) taken.new) }
 {
-    let own = own_name(
+    let named = own_name_at(
+        alloc,
+        problems,
+        path,
         names.mapping_places(),
         number as usize,
         mapping.name.as_str(),
-    );
-    let named = name_at(
-        alloc,
-        problems,
-        &Path::Member(path, "name"),
-        mapping.name.as_str(),
-        own,
     )?;
     let checked = form_at(alloc, problems, names, taken, path, number, mapping)?;
     Ok(mapping_with(named, checked))

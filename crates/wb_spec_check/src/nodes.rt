@@ -71,7 +71,6 @@ fn objects_with(
 }
 
 /// When the elements of a mapping are shown.
-
 pub(crate) fn shown_at(
     alloc: Global,
     problems: &mut List<Problem>,
@@ -141,7 +140,6 @@ fn shown_with(precondition: Option<Option<Checked>>, layer: Option<Option<u32>>)
 }
 
 /// The mappings of the elements inside the elements of this mapping, and then of those on their border.
-
 fn nested_at(
     alloc: Global,
     problems: &mut List<Problem>,
@@ -185,7 +183,6 @@ fn nested_with(children: Option<List<u32>>, borders: Option<List<u32>>) -> Optio
 }
 
 /// The node mapping with this number, but for its name.
-#[tactic(auto, unfolding(crate::specs::Mappings::node_at))]
 pub(crate) fn node_at(
     alloc: Global,
     problems: &mut List<Problem>,

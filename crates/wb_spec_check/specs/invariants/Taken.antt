@@ -7,7 +7,7 @@ use Rattle.wb_base.specs.Names.{same_name}
 use Rattle.wb_spec_check.specs.ChildLists.{ChildList, names_elsewhere}
 use Rattle.wb_spec_check.specs.declared.child_lists.Taken.{Taken}
 
--- exactly the names of these lists are taken, but those of a mapping among its own children
+-- exactly the names of these lists are taken, but that of a mapping among its own children
 abbrev pub TakenBy : Content → List ChildList → Taken → Type 0
 TakenBy content earlier taken = Holds taken.names (flat_map (names_elsewhere content) earlier)
 

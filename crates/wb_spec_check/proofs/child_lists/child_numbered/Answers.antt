@@ -1,4 +1,3 @@
-use Rattle.std.proofs.Common.{sym, ◌∙◌}
 use Rattle.wb_spec_check.proofs.Children.{child_first, child_reused}
 use Rattle.wb_spec_check.proofs.child_lists.child_numbered.Goals as goal
 

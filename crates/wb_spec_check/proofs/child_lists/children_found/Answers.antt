@@ -1,4 +1,4 @@
-use Rattle.std.proofs.Common.{List, ℕ, [], Some, sym, ◌∙◌, subst, ap}
+use Rattle.std.proofs.Common.{List, ℕ, Some, sym, ◌∙◌, subst, ap}
 use Rattle.std.specs.Option.{is_some}
 use Rattle.wb_spec_check.specs.ChildLists.{ChildList, child_found}
 use Rattle.wb_spec_check.specs.Places.{◌!◌, place_of}

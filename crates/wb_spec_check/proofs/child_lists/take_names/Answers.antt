@@ -1,4 +1,4 @@
-use Rattle.std.proofs.Common.{subst, arith}
+use Rattle.std.proofs.Common.{subst}
 use Rattle.std.proofs.lemmas.List.{take_all}
 use Rattle.wb_spec_check.specs.ChildLists.{names_elsewhere}
 use Rattle.wb_spec_check.specs.invariants.Taken.{Takes}

@@ -1,4 +1,4 @@
-use Rattle.std.proofs.Common.{List, ℕ, [], Some, sym, subst}
+use Rattle.std.proofs.Common.{List, ℕ, Some, sym, subst}
 use Rattle.wb_spec_check.specs.Findings.{end_found}
 use Rattle.wb_spec_check.specs.Places.{◌!◌, place_of}
 use Rattle.wb_spec_check.specs.Validated.{Validated, at}

@@ -1,4 +1,4 @@
-use Rattle.std.proofs.Common.{◌≡◌, ℕ, List, [], Some, length, sym, ap, ◌∙◌, subst}
+use Rattle.std.proofs.Common.{◌≡◌, ℕ, Some, sym, ap, ◌∙◌, subst}
 use Rattle.wb_viewpoint.specs.declared.content.Content.{Content}
 use Rattle.wb_viewpoint.specs.declared.mappings.Mapping.{Mapping}
 use Rattle.wb_spec_check.specs.Mappings.{mapping_at}
