@@ -16,6 +16,7 @@ mod mappings;
 mod names;
 mod nodes;
 mod operations;
+mod own_names;
 mod parts;
 mod path;
 mod problem;
@@ -23,7 +24,9 @@ mod reports;
 mod roles;
 mod scopes;
 mod spots;
+mod tool_expressions;
 mod tools;
+mod units;
 
 pub use checked_filters::CheckedFilter;
 pub use checked_looks::{CheckedLooks, CheckedStyle};

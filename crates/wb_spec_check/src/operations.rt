@@ -87,7 +87,9 @@ fn action_at(
             computed_at(alloc, problems, names, scope, &place, browse)
         }
         Action::CreateInstance {
-            reference, class, ..
+            reference,
+            class,
+            ..
         } => create_at(alloc, problems, names, path, reference, class),
         Action::Set { feature, value } => {
             set_at(alloc, problems, names, scope, path, feature, value)
@@ -178,8 +180,7 @@ fn unset_at(
 {
     let known = feature_at(alloc, problems, names, path, feature)?;
     let place = Path::Member(path, "value");
-    let checked =
-        optional_expression_at(alloc, problems, names.metamodel(), scope, &place, value)?;
+    let checked = optional_expression_at(alloc, problems, names.metamodel(), scope, &place, value)?;
     Ok(row_where(known, maybe_expression(checked)))
 }
 

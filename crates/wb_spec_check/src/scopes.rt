@@ -39,6 +39,16 @@ fn texts(alloc: Global, names: &[&str]) -> Result<List<Text>, AllocError>
     Ok(texts)
 }
 
+fn copied(alloc: Global, variables: &[Text]) -> Result<List<Text>, AllocError>
+    ensures { IfOk result (λ copies. copies ≡ variables.now) }
+{
+    let mut copies = List::new(alloc);
+    for variable in variables {
+        copies.push(variable.copy(alloc)?)?;
+    }
+    Ok(copies)
+}
+
 /// The variables in scope of the operations inside an operation.
 pub(crate) enum InnerScope<'a> {
     /// Those around it.
@@ -75,10 +85,7 @@ impl<'a> InnerScope<'a> {
     fn with(alloc: Global, around: &[Text], name: &Name) -> Result<InnerScope<'a>, AllocError>
         ensures { IfOk result (λ inner. variables_of inner ≡ around.now ++ name.now ∷ []) }
     {
-        let mut variables = List::new(alloc);
-        for variable in around {
-            variables.push(variable.copy(alloc)?)?;
-        }
+        let mut variables = copied(alloc, around)?;
         variables.push(Text::from_str(alloc, name.as_str())?)?;
         Ok(InnerScope::More(variables))
     }

@@ -60,7 +60,6 @@ fn each_tool_at(
 }
 
 /// The tool of this number.
-#[tactic(auto, unfolding(crate::specs::Tools::tool_at, crate::specs::Places::place_of))]
 fn tool_at(
     alloc: Global,
     problems: &mut List<Problem>,
@@ -73,25 +72,49 @@ fn tool_at(
     requires { Numbers first.now (place_in (map (λ (it : Tool). it.name) names.now.1.tools)) }
     ensures { Reports (tool_at names.now.0 names.now.1 number (place_of path.now) tool.now) problems.old result problems.new }
 {
-    let known = own_name_at(alloc, problems, names, first, number, path, tool)?;
     let scope = tool_scope(alloc, tool.kind)?;
-    let precondition = optional_expression_at(
-        alloc,
-        problems,
-        names.metamodel(),
-        scope.as_slice(),
-        &Path::Member(path, "precondition"),
-        &tool.precondition,
-    )?;
-    let operations = rows_at(
+    tool_with_scope_at(
         alloc,
         problems,
         names,
         scope.as_slice(),
-        &Path::Member(path, "do"),
-        tool.operations.as_slice(),
+        first,
+        number,
+        path,
+        tool,
+    )
+}
+
+/// The same, with the variables of its kind.
+#[tactic(auto, unfolding(crate::specs::Tools::tool_at, crate::specs::Places::place_of))]
+fn tool_with_scope_at(
+    alloc: Global,
+    problems: &mut List<Problem>,
+    names: &Names<'_>,
+    scope: &[Text],
+    first: &NumberedNames,
+    number: usize,
+    path: &Path<'_>,
+    tool: &Tool,
+) -> Result<Option<CheckedTool>, AllocError>
+    requires scope { scope.now ≡ tool_scope tool.now.kind }
+    requires first { Numbers first.now (place_in (map (λ (it : Tool). it.name) names.now.1.tools)) }
+    ensures { Reports (tool_at names.now.0 names.now.1 number (place_of path.now) tool.now) problems.old result problems.new }
+{
+    let known = own_name_at(alloc, problems, names, first, number, path, tool)?;
+    let place = Path::Member(path, "precondition");
+    let precondition = optional_expression_at(
+        alloc,
+        problems,
+        names.metamodel(),
+        scope,
+        &place,
+        &tool.precondition,
     )?;
-    Ok(tool_with(known, precondition, operations))
+    let place = Path::Member(path, "do");
+    let operations = tool.operations.as_slice();
+    let rows = rows_at(alloc, problems, names, scope, &place, operations)?;
+    Ok(tool_with(known, precondition, rows))
 }
 
 #[tactic(auto, unfolding(crate::specs::Places::place_of))]
