@@ -1,9 +1,10 @@
 -- What several steps of the check tell together, one after the other.
 use Rattle.std.proofs.Common.{◌≡◌, ℕ, zero, suc, ◌+◌, ◌<◌, ◌≤◌, List, [], ◌∷◌, ◌++◌, length, get_or, take, drop, Option, Some, None, refl, sym, ap, subst, ◌∙◌, append_assoc, append-nil, add-one, arith}
+use Rattle.std.specs.Prelude.{⊤}
 use Rattle.std.proofs.lemmas.List.{take_more, take_all, length-take-le}
 use Rattle.wb_spec_check.specs.Validated.{Validated, good, bad, ◌<*>◌, problems_of, value_of, each, each_from}
 use Rattle.wb_spec_check.specs.declared.problem.Problem.{Problem}
-use Rattle.wb_spec_check.specs.invariants.Reports.{Tells, Gathers, ◌<&>◌, and_then}
+use Rattle.wb_spec_check.specs.invariants.Reports.{Tells, Gathers, GathersAll, none_needed, both_good, ◌<&>◌, and_then}
 
 -- ---- two parts
 
@@ -99,11 +100,33 @@ pub gathers_on : {A B : Type 0} {check : ℕ → A → Validated B} {xs : List A
 gathers_on {check = check} {xs = xs} {i = i} {p0 = p0} x next old inside here found is =
     let count : i ≡ 0 + length (take i xs) = omega (arith, length-take-le i xs) in
     let more : take (i + 1) xs ≡ take i xs ++ x ∷ [] = take_more xs i x inside ∙ ap (λ y. take i xs ++ y ∷ []) (sym here) in
-    record { so_far = record {
-      value = is ∙ rw (more, each_last_value check 0 i (take i xs) x count, old.so_far.value, found.value) refl;
-      problems = found.problems ∙ ap (λ ps. ps ++ problems_of (check i x)) old.so_far.problems ∙ append_assoc p0 _ _ ∙ ap (λ ps. p0 ++ ps) (sym (ap (λ ys. problems_of (each check ys)) more ∙ each_last_problems check 0 i (take i xs) x count));
-    } }
+    record {
+      so_far = record {
+        value = is ∙ rw (more, each_last_value check 0 i (take i xs) x count, old.so_far.value, found.value) refl;
+        problems = found.problems ∙ ap (λ ps. ps ++ problems_of (check i x)) old.so_far.problems ∙ append_assoc p0 _ _ ∙ ap (λ ps. p0 ++ ps) (sym (ap (λ ys. problems_of (each check ys)) more ∙ each_last_problems check 0 i (take i xs) x count));
+      };
+    }
 
 -- after the last item
 pub gathers_all : {A B : Type 0} {check : ℕ → A → Validated B} {xs : List A} {i : ℕ} {p0 p1 : List Problem} {rs : Option (List B)} → Gathers check xs i p0 rs p1 → length xs ≤ i → Tells (each check xs) p0 rs p1
 gathers_all {check = check} {xs = xs} {i = i} {p0 = p0} {p1 = p1} {rs = rs} old all = subst (λ ys. Tells (each check ys) p0 rs p1) (take_all i xs all) old.so_far
+
+-- ---- items without values
+
+pub all_none : {A : Type 0} (check : ℕ → A → Validated ⊤) (xs : List A) (p0 : List Problem) → GathersAll check xs 0 p0 (Some tt) p0
+all_none check xs p0 = record { values = Some []; gathers = gathers_none check xs p0; all = refl }
+
+one_more_good : (values : Option (List ⊤)) (r : Option ⊤) → (Some both_good <&> (Some none_needed <&> values) <&> r) ≡ (Some none_needed <&> and_then values r)
+one_more_good None r = refl
+one_more_good (Some values) None = refl
+one_more_good (Some values) (Some r) = refl
+
+pub all_on : {A : Type 0} {check : ℕ → A → Validated ⊤} {xs : List A} {i : ℕ} {p0 p1 p2 : List Problem} {all r : Option ⊤} (x : A) (next : Option ⊤) → GathersAll check xs i p0 all p1 → i < length xs → x ≡ get_or xs i x → Tells (check i x) p1 r p2 → next ≡ (Some both_good <&> all <&> r) → GathersAll check xs (i + 1) p0 next p2
+all_on {r = r} x next old inside here found is = record {
+  values = and_then old.values r;
+  gathers = gathers_on x (and_then old.values r) old.gathers inside here found refl;
+  all = is ∙ ap (λ all. Some both_good <&> all <&> r) old.all ∙ one_more_good old.values r;
+}
+
+pub all_done : {A : Type 0} {check : ℕ → A → Validated ⊤} {xs : List A} {i : ℕ} {p0 p1 : List Problem} {all : Option ⊤} → GathersAll check xs i p0 all p1 → length xs ≤ i → Tells (good none_needed <*> each check xs) p0 all p1
+all_done {all = all} old last = joined1 none_needed all (gathers_all old.gathers last) old.all

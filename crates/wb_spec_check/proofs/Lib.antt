@@ -1,2 +1,4 @@
 pub mod Joined
+pub mod OwnNames
 pub mod Rows
+pub mod Steps

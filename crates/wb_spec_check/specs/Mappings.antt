@@ -91,6 +91,7 @@ nested_at content n place node =
   where
     children_list : ℕ → NodeMapping → ChildList
     children_list n node = record { role = role.Children n node.kind; names = node.children }
+
     borders_list : NodeMapping → ChildList
     borders_list node = record { role = role.Borders; names = node.borders }
 

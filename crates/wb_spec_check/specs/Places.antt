@@ -9,13 +9,11 @@ abbrev pub ◌/◌ : Place → List ℕ → Place
 place / name = place ++ pointer_segment name
 
 infixl 30 ◌/◌
-
 -- the item of that number
 abbrev pub ◌!◌ : Place → ℕ → Place
 place ! n = place ++ index_segment n
 
 infixl 30 ◌!◌
-
 -- the diagram of a viewpoint
 abbrev pub diagram : Place
 diagram = codes "#" / codes "diagram"

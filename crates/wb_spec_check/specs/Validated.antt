@@ -17,7 +17,6 @@ abbrev pub ◌<*>◌ : {A B : Type 0} → Validated (A → B) → Validated A �
 (bad p ps) <*> (bad q qs) = bad p (ps ++ (q ∷ qs))
 
 infixl 20 ◌<*>◌
-
 -- the problems that were found, and the value where there is none
 abbrev pub problems_of : {A : Type 0} → Validated A → List Problem
 problems_of (good x) = []

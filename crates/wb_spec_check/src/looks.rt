@@ -66,7 +66,13 @@ fn style_at(
         &Path::Member(path, "when"),
         &style.when,
     )?;
-    let label = label_at(alloc, problems, names, &Path::Member(path, "style"), &style.style)?;
+    let label = label_at(
+        alloc,
+        problems,
+        names,
+        &Path::Member(path, "style"),
+        &style.style,
+    )?;
     Ok(style_with(when, label))
 }
 
@@ -81,7 +87,7 @@ fn styles_at(
 {
     let mut found = Some(List::new(alloc));
     for (number, style) in styles.iter().enumerate() {
-        let style = style_at(alloc, problems, names, &Path::Item(path, number), style)?;
+        let style = style_at(alloc, problems, &*names, &Path::Item(&*path, number), style)?;
         gather(&mut found, style)?;
     }
     Ok(found)
@@ -110,7 +116,13 @@ pub(crate) fn looks_at(
 ) -> Result<Option<CheckedLooks>, AllocError>
     ensures { Reports (looks_at names.now.0 (place_of path.now) looks.now) problems.old result problems.new }
 {
-    let label = label_at(alloc, problems, names, &Path::Member(path, "style"), &looks.style)?;
+    let label = label_at(
+        alloc,
+        problems,
+        names,
+        &Path::Member(path, "style"),
+        &looks.style,
+    )?;
     let styles = styles_at(
         alloc,
         problems,

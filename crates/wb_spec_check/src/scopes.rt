@@ -2,6 +2,7 @@ ghost use Rattle.std.specs.Prelude.{◌≡◌, ◌∷◌, [], ◌++◌, map, IfO
 ghost use Rattle.wb_spec_check.specs.Scopes.{scope_inside, tool_scope};
 ghost use Rattle.wb_spec_check.specs.invariants.InnerScopes.{variables_of};
 
+use crate::scope_texts::scope_of;
 use std::alloc::{AllocError, Global};
 use wb_base::{Duplicate, List, Text};
 use wb_json::Name;
@@ -11,7 +12,7 @@ use wb_viewpoint::{Action, ToolKind};
 pub(crate) fn tool_scope(alloc: Global, kind: ToolKind) -> Result<List<Text>, AllocError>
     ensures { IfOk result (λ scope. scope ≡ tool_scope kind) }
 {
-    texts(alloc, tool_variables(kind))
+    scope_of(alloc, tool_variables(kind))
 }
 
 #[tactic(auto, unfolding(crate::specs::Scopes::tool_scope))]
@@ -26,17 +27,6 @@ fn tool_variables(kind: ToolKind) -> &'static [&'static str]
         ToolKind::Reconnect => &["self", "element", "end", "oldEnd", "newEnd"],
         ToolKind::Drop => &["self", "element", "oldContainer", "newContainer"],
     }
-}
-
-/// These names, each with memory of its own.
-fn texts(alloc: Global, names: &[&str]) -> Result<List<Text>, AllocError>
-    ensures { IfOk result (λ texts. texts ≡ map (λ name. name.now) names.now) }
-{
-    let mut texts = List::new(alloc);
-    for name in names {
-        texts.push(Text::from_str(alloc, name)?)?;
-    }
-    Ok(texts)
 }
 
 fn copied(alloc: Global, variables: &[Text]) -> Result<List<Text>, AllocError>
