@@ -11,7 +11,6 @@ use Rattle.wb_spec_check.specs.Checked.{Specification}
 use Rattle.wb_spec_check.specs.declared.checked_filters.CheckedFilter.{CheckedFilter}
 use Rattle.wb_spec_check.specs.declared.checked_looks.CheckedLooks.{CheckedLooks}
 use Rattle.wb_spec_check.specs.declared.checked_looks.CheckedStyle.{CheckedStyle}
-use Rattle.wb_spec_check.specs.declared.checked_mappings.CheckedEdge.{CheckedEdge}
 use Rattle.wb_spec_check.specs.declared.checked_mappings.CheckedForm.{CheckedForm}
 use Rattle.wb_spec_check.specs.declared.checked_mappings.CheckedForm.TheVariants.{Node, Edge}
 use Rattle.wb_spec_check.specs.declared.checked_mappings.CheckedMapping.{CheckedMapping}

@@ -1,4 +1,4 @@
-use Rattle.std.proofs.Common.{map, take, sym, ◌∙◌}
+use Rattle.std.proofs.Common.{map, take, sym}
 use Rattle.std.proofs.lemmas.List.{take-map}
 use Rattle.wb_viewpoint.specs.declared.tools.Tool.{Tool}
 use Rattle.wb_spec_check.specs.Tools.{tool_at}
