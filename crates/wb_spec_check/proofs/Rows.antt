@@ -1,22 +1,20 @@
 -- Operations one after another, and their rows.
 use Rattle.std.specs.Prelude.{⊤}
 use Rattle.std.specs.declared.alloc.AllocError.{AllocError}
-use Rattle.std.proofs.Common.{◌≡◌, ℕ, zero, suc, ◌+◌, ◌<◌, ◌≤◌, List, [], ◌∷◌, ◌++◌, length, take, get_or, Option, Some, None, Result, Ok, Err, OnOk, refl, sym, ap, ◌∙◌, append_assoc, append-nil, add-one, arith, codes}
+use Rattle.std.proofs.Common.{◌≡◌, ℕ, suc, ◌+◌, ◌<◌, List, [], ◌∷◌, ◌++◌, length, take, get_or, Option, Some, None, Result, Ok, Err, OnOk, refl, sym, ap, ◌∙◌, append_assoc, append-nil, arith, codes}
 use Rattle.std.proofs.lemmas.List.{take_more, length-take-le}
 use Rattle.wb_json.specs.Place.{Place}
 use Rattle.wb_metamodel.specs.Metamodel.{Metamodel}
 use Rattle.wb_viewpoint.proofs.Trees.{tree_out}
-use Rattle.wb_viewpoint.specs.OperationTrees.{operation}
 use Rattle.wb_viewpoint.specs.View.{tree_of, trees_of}
 use Rattle.wb_viewpoint.specs.declared.operations.Operation.{Operation, out-Operation}
-use Rattle.wb_spec_check.proofs.Joined.{value_of_join, problems_of_join}
 use Rattle.wb_spec_check.specs.Places.{◌/◌, ◌!◌}
 use Rattle.wb_spec_check.specs.Scopes.{scope_inside}
 use Rattle.wb_spec_check.specs.Tools.{action_at, operation_at, operations_from}
 use Rattle.wb_spec_check.specs.Validated.{Validated, good, bad, ◌<*>◌, problems_of, value_of}
 use Rattle.wb_spec_check.specs.declared.checked_tools.CheckedOperation.{CheckedOperation}
 use Rattle.wb_spec_check.specs.declared.problem.Problem.{Problem}
-use Rattle.wb_spec_check.specs.invariants.Reports.{Tells, ◌<&>◌, and_then}
+use Rattle.wb_spec_check.specs.invariants.Reports.{Tells, and_then}
 use Rattle.wb_spec_check.specs.invariants.Rows.{TellsRows, behind}
 
 -- ---- lists that are checked one after the other

@@ -25,7 +25,9 @@ mod reports;
 mod roles;
 mod scopes;
 mod spots;
+mod tool_expressions;
 mod tools;
+mod units;
 
 pub use checked_filters::CheckedFilter;
 pub use checked_looks::{CheckedLooks, CheckedStyle};

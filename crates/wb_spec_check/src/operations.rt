@@ -115,7 +115,7 @@ fn action_at(
     }
 }
 
-/// An operation that has an expression alone, at this member.
+/// An operation that has an expression alone, which stands at the place.
 fn computed_at(
     alloc: Global,
     problems: &mut List<Problem>,
@@ -285,7 +285,7 @@ fn maybe_expression(expression: Option<Option<Checked>>) -> Option<CheckedOperat
     }
 }
 
-/// The row, where the operation's name is known too.
+/// The row of an operation, where the name that it has is known too.
 fn row_where(known: Option<()>, row: Option<CheckedOperation>) -> Option<CheckedOperation>
     ensures { result ≡ option_and_then (λ _. row) known }
 {

@@ -2,6 +2,7 @@ ghost use Rattle.std.specs.Prelude.{◌≡◌, ◌∷◌, [], ◌++◌, map, IfO
 ghost use Rattle.wb_spec_check.specs.Scopes.{scope_inside, tool_scope};
 ghost use Rattle.wb_spec_check.specs.invariants.InnerScopes.{variables_of};
 
+use crate::scope_texts::scope_of;
 use std::alloc::{AllocError, Global};
 use wb_base::{Duplicate, List, Text};
 use wb_json::Name;
@@ -11,7 +12,7 @@ use wb_viewpoint::{Action, ToolKind};
 pub(crate) fn tool_scope(alloc: Global, kind: ToolKind) -> Result<List<Text>, AllocError>
     ensures { IfOk result (λ scope. scope ≡ tool_scope kind) }
 {
-    texts(alloc, tool_variables(kind))
+    scope_of(alloc, tool_variables(kind))
 }
 
 #[tactic(auto, unfolding(crate::specs::Scopes::tool_scope))]
@@ -28,15 +29,14 @@ fn tool_variables(kind: ToolKind) -> &'static [&'static str]
     }
 }
 
-/// These names, each with memory of its own.
-pub(crate) fn texts(alloc: Global, names: &[&str]) -> Result<List<Text>, AllocError>
-    ensures { IfOk result (λ texts. texts ≡ map (λ name. name.now) names.now) }
+fn copied(alloc: Global, variables: &[Text]) -> Result<List<Text>, AllocError>
+    ensures { IfOk result (λ copies. copies ≡ variables.now) }
 {
-    let mut texts = List::new(alloc);
-    for name in names {
-        texts.push(Text::from_str(alloc, name)?)?;
+    let mut copies = List::new(alloc);
+    for variable in variables {
+        copies.push(variable.copy(alloc)?)?;
     }
-    Ok(texts)
+    Ok(copies)
 }
 
 /// The variables in scope of the operations inside an operation.
@@ -75,10 +75,7 @@ impl<'a> InnerScope<'a> {
     fn with(alloc: Global, around: &[Text], name: &Name) -> Result<InnerScope<'a>, AllocError>
         ensures { IfOk result (λ inner. variables_of inner ≡ around.now ++ name.now ∷ []) }
     {
-        let mut variables = List::new(alloc);
-        for variable in around {
-            variables.push(variable.copy(alloc)?)?;
-        }
+        let mut variables = copied(alloc, around)?;
         variables.push(Text::from_str(alloc, name.as_str())?)?;
         Ok(InnerScope::More(variables))
     }

@@ -1,9 +1,8 @@
-ghost use Rattle.std.specs.Prelude.{◌≡◌, Some, [], map, take, codes};
-ghost use Rattle.wb_spec_check.specs.Findings.{own_name};
-ghost use Rattle.wb_spec_check.specs.Places.{◌/◌, ◌!◌, place_of};
+ghost use Rattle.std.specs.Prelude.{◌≡◌, Some, map};
+ghost use Rattle.wb_spec_check.specs.Places.{◌!◌, place_of};
 ghost use Rattle.wb_spec_check.specs.Scopes.{tool_scope};
 ghost use Rattle.wb_spec_check.specs.Tools.{operations_from, tool_at};
-ghost use Rattle.wb_spec_check.specs.Validated.{at, each};
+ghost use Rattle.wb_spec_check.specs.Validated.{each};
 ghost use Rattle.wb_spec_check.specs.invariants.Known.{Numbers, place_in};
 ghost use Rattle.wb_spec_check.specs.invariants.Reports.{Reports, ◌<&>◌};
 ghost use Rattle.wb_viewpoint.specs.View.{trees_of};
@@ -12,12 +11,12 @@ ghost use Rattle.wb_viewpoint.specs.declared.tools.Tool.{Tool};
 use crate::checked_tools::{CheckedOperation, CheckedTool};
 use crate::names::Names;
 use crate::operations::operations_at;
-use crate::own_names::{numbered, own_name};
+use crate::own_names::numbered;
 use crate::path::Path;
 use crate::problem::Problem;
 use crate::reports::gather;
 use crate::scopes::tool_scope;
-use crate::spots::{name_at, optional_expression_at};
+use crate::spots::{optional_expression_at, own_name_at};
 use std::alloc::{AllocError, Global};
 use wb_base::{List, Text};
 use wb_ecore::NumberedNames;
@@ -60,7 +59,6 @@ fn each_tool_at(
 }
 
 /// The tool of this number.
-#[tactic(auto, unfolding(crate::specs::Tools::tool_at, crate::specs::Places::place_of))]
 fn tool_at(
     alloc: Global,
     problems: &mut List<Problem>,
@@ -73,44 +71,49 @@ fn tool_at(
     requires { Numbers first.now (place_in (map (λ (it : Tool). it.name) names.now.1.tools)) }
     ensures { Reports (tool_at names.now.0 names.now.1 number (place_of path.now) tool.now) problems.old result problems.new }
 {
-    let known = own_name_at(alloc, problems, names, first, number, path, tool)?;
     let scope = tool_scope(alloc, tool.kind)?;
-    let precondition = optional_expression_at(
-        alloc,
-        problems,
-        names.metamodel(),
-        scope.as_slice(),
-        &Path::Member(path, "precondition"),
-        &tool.precondition,
-    )?;
-    let operations = rows_at(
+    tool_with_scope_at(
         alloc,
         problems,
         names,
         scope.as_slice(),
-        &Path::Member(path, "do"),
-        tool.operations.as_slice(),
-    )?;
-    Ok(tool_with(known, precondition, operations))
+        first,
+        number,
+        path,
+        tool,
+    )
 }
 
-#[tactic(auto, unfolding(crate::specs::Places::place_of))]
-fn own_name_at(
+/// The same, with the variables of its kind.
+#[tactic(auto, unfolding(crate::specs::Tools::tool_at, crate::specs::Places::place_of))]
+fn tool_with_scope_at(
     alloc: Global,
     problems: &mut List<Problem>,
     names: &Names<'_>,
+    scope: &[Text],
     first: &NumberedNames,
     number: usize,
     path: &Path<'_>,
     tool: &Tool,
-) -> Result<Option<()>, AllocError>
-    requires { Numbers first.now (place_in (map (λ (it : Tool). it.name) names.now.1.tools)) }
-    ensures { Reports (at (place_of path.now / codes "name") (own_name (map (λ (it : Tool). it.name) (take number names.now.1.tools)) tool.now.name)) problems.old result problems.new }
+) -> Result<Option<CheckedTool>, AllocError>
+    requires scope { scope.now ≡ tool_scope tool.now.kind }
+    requires first { Numbers first.now (place_in (map (λ (it : Tool). it.name) names.now.1.tools)) }
+    ensures { Reports (tool_at names.now.0 names.now.1 number (place_of path.now) tool.now) problems.old result problems.new }
 {
-    let _ = names;
-    let place = Path::Member(path, "name");
-    let name = tool.name.as_str();
-    name_at(alloc, problems, &place, name, own_name(first, number, name))
+    let known = own_name_at(alloc, problems, path, first, number, tool.name.as_str())?;
+    let place = Path::Member(path, "precondition");
+    let precondition = optional_expression_at(
+        alloc,
+        problems,
+        names.metamodel(),
+        scope,
+        &place,
+        &tool.precondition,
+    )?;
+    let place = Path::Member(path, "do");
+    let operations = tool.operations.as_slice();
+    let rows = rows_at(alloc, problems, names, scope, &place, operations)?;
+    Ok(tool_with(known, precondition, rows))
 }
 
 /// The rows of the operations of a tool.

@@ -1,4 +1,4 @@
-use Rattle.std.proofs.Common.{◌≡◌, take}
+use Rattle.std.proofs.Common.{take}
 use Rattle.wb_viewpoint.specs.View.{trees_of}
 use Rattle.wb_spec_check.specs.Places.{place_of}
 use Rattle.wb_spec_check.specs.Tools.{operations_from}
