@@ -1,4 +1,3 @@
-pub mod Checks
 pub mod Children
 pub mod Joined
 pub mod OwnNames

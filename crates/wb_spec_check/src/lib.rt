@@ -23,6 +23,7 @@ mod path;
 mod problem;
 mod reports;
 mod roles;
+mod scope_texts;
 mod scopes;
 mod spots;
 mod tool_expressions;

@@ -9,7 +9,7 @@ ghost use Rattle.wb_spec_check.specs.invariants.Findings.{Finds};
 ghost use Rattle.wb_spec_check.specs.invariants.Known.{Numbers, HasNames, place_in};
 
 use crate::own_names::numbered;
-use crate::scopes::texts;
+use crate::scope_texts::scope_of;
 use std::alloc::{AllocError, Global};
 use std::marker::Model;
 use wb_base::{List, Text};
@@ -117,8 +117,8 @@ impl<'a> Names<'a> {
         let mappings = numbered(alloc, content.mappings.as_slice())?;
         let features = feature_names(alloc, metamodel)?;
         let containments = containment_names(alloc, metamodel)?;
-        let self_alone = texts(alloc, &["self"])?;
-        let with_container = texts(alloc, &["self", "container"])?;
+        let self_alone = scope_of(alloc, &["self"])?;
+        let with_container = scope_of(alloc, &["self", "container"])?;
         Ok(Names {
             metamodel,
             content,

@@ -1,3 +1,0 @@
-use Rattle.std.proofs.Common.{◌≡◌, sym}
-use Rattle.wb_spec_check.proofs.Checks.{good_of}
-use Rattle.wb_spec_check.proofs.checking.check_viewpoint.Goals as goal
