@@ -1,5 +1,5 @@
 -- The check of a viewpoint over a metamodel: what later steps ask of it, or all its problems in the order of the walk.
-use Rattle.std.specs.Prelude.{◌≡◌, ⊤, ℕ, List, [], ◌∷◌, map, take, codes}
+use Rattle.std.specs.Prelude.{◌≡◌, ⊤, ℕ, List, [], map, take, codes}
 use Rattle.wb_json.specs.Place.{Place}
 use Rattle.wb_metamodel.specs.Metamodel.{Metamodel}
 use Rattle.wb_viewpoint.specs.declared.content.Content.{Content}
@@ -11,7 +11,7 @@ use Rattle.wb_spec_check.specs.Mappings.{children_at, expression_at, mapping_at}
 use Rattle.wb_spec_check.specs.Places.{◌/◌, ◌!◌, diagram}
 use Rattle.wb_spec_check.specs.Scopes.{own_scope}
 use Rattle.wb_spec_check.specs.Tools.{tool_at}
-use Rattle.wb_spec_check.specs.Validated.{Validated, good, bad, ◌<*>◌, at, each, problems_of, value_of}
+use Rattle.wb_spec_check.specs.Validated.{Validated, good, ◌<*>◌, at, each, problems_of}
 use Rattle.wb_spec_check.specs.declared.checked_filters.CheckedFilter.{CheckedFilter}
 use Rattle.wb_spec_check.specs.declared.checked_mappings.CheckedMapping.{CheckedMapping}
 use Rattle.wb_spec_check.specs.declared.checked_tools.CheckedTool.{CheckedTool}
