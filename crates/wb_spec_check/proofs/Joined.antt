@@ -1,10 +1,11 @@
 -- What several steps of the check tell together, one after the other.
-use Rattle.std.proofs.Common.{◌≡◌, ℕ, zero, suc, ◌+◌, ◌<◌, ◌≤◌, List, [], ◌∷◌, ◌++◌, length, get_or, take, drop, Option, Some, None, refl, sym, ap, subst, ◌∙◌, append_assoc, append-nil, add-one, arith}
+use Rattle.std.proofs.Common.{◌≡◌, ℕ, suc, ◌+◌, ◌<◌, ◌≤◌, List, [], ◌∷◌, ◌++◌, length, get_or, take, Option, Some, None, refl, sym, ap, subst, ◌∙◌, append_assoc, append-nil, arith}
 use Rattle.std.specs.Prelude.{⊤}
 use Rattle.std.proofs.lemmas.List.{take_more, take_all, length-take-le}
+use Rattle.wb_spec_check.specs.Checked.{none_needed}
 use Rattle.wb_spec_check.specs.Validated.{Validated, good, bad, ◌<*>◌, problems_of, value_of, each, each_from}
 use Rattle.wb_spec_check.specs.declared.problem.Problem.{Problem}
-use Rattle.wb_spec_check.specs.invariants.Reports.{Tells, Gathers, GathersAll, none_needed, both_good, ◌<&>◌, and_then}
+use Rattle.wb_spec_check.specs.invariants.Reports.{Tells, Gathers, GathersAll, both_good, ◌<&>◌, and_then}
 
 -- ---- two parts
 

@@ -1,4 +1,5 @@
 pub mod Children
 pub mod Joined
 pub mod OwnNames
+pub mod Rows
 pub mod Steps

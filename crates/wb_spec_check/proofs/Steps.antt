@@ -1,6 +1,6 @@
 -- The place of each path.
 use Rattle.std.proofs.Common.{rules, ◌≡◌, ℕ, List, ◌++◌, Bor, Result, Ok, Err, ap, ◌∙◌, append_assoc}
-use Rattle.wb_spec_check.specs.Places.{place_of, diagram, ◌/◌, ◌!◌}
+use Rattle.wb_spec_check.specs.Places.{place_of, ◌/◌, ◌!◌}
 use Rattle.wb_spec_check.specs.declared.path.Path.{Path, Root, Member, Item, the_lemmas}
 use Rattle.std.specs.Prelude.{codes, OnOk}
 

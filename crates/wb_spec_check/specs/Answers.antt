@@ -1,5 +1,5 @@
 -- What the check of a viewpoint answers.
-use Rattle.std.specs.Prelude.{◌≡◌, ℕ, None}
+use Rattle.std.specs.Prelude.{◌≡◌, None}
 use Rattle.wb_metamodel.specs.Metamodel.{Metamodel}
 use Rattle.wb_viewpoint.specs.declared.content.Content.{Content}
 use Rattle.wb_spec_check.specs.Checked.{IsCheckedBy, checked, problems}

@@ -1,5 +1,5 @@
 -- The check of a viewpoint over a metamodel: what later steps ask of it, or all its problems in the order of the walk.
-use Rattle.std.specs.Prelude.{◌≡◌, ⊤, ℕ, List, [], ◌∷◌, map, take, codes}
+use Rattle.std.specs.Prelude.{◌≡◌, ⊤, ℕ, List, [], map, take, codes}
 use Rattle.wb_json.specs.Place.{Place}
 use Rattle.wb_metamodel.specs.Metamodel.{Metamodel}
 use Rattle.wb_viewpoint.specs.declared.content.Content.{Content}
@@ -11,8 +11,10 @@ use Rattle.wb_spec_check.specs.Mappings.{children_at, expression_at, mapping_at}
 use Rattle.wb_spec_check.specs.Places.{◌/◌, ◌!◌, diagram}
 use Rattle.wb_spec_check.specs.Scopes.{own_scope}
 use Rattle.wb_spec_check.specs.Tools.{tool_at}
-use Rattle.wb_spec_check.specs.Validated.{Validated, good, bad, ◌<*>◌, at, each, problems_of, value_of}
+use Rattle.wb_spec_check.specs.Validated.{Validated, good, ◌<*>◌, at, each, problems_of}
 use Rattle.wb_spec_check.specs.declared.checked_filters.CheckedFilter.{CheckedFilter}
+use Rattle.wb_spec_check.specs.declared.checked_mappings.CheckedMapping.{CheckedMapping}
+use Rattle.wb_spec_check.specs.declared.checked_tools.CheckedTool.{CheckedTool}
 use Rattle.wb_spec_check.specs.declared.parts.Parts.{Parts}
 use Rattle.wb_spec_check.specs.declared.problem.Problem.{Problem}
 
@@ -20,8 +22,11 @@ use Rattle.wb_spec_check.specs.declared.problem.Problem.{Problem}
 abbrev pub layer_at : Content → ℕ → Layer → Validated ⊤
 layer_at content i layer = at (diagram / codes "layers" ! i / codes "name") (own_name (map (λ (it : Layer). it.name) (take i content.layers)) layer.name)
 
+abbrev pub none_needed : List ⊤ → ⊤
+none_needed values = tt
+
 unfoldable pub layers_at : Content → Validated ⊤
-layers_at content = good (λ _. tt) <*> each (layer_at content) content.layers
+layers_at content = good none_needed <*> each (layer_at content) content.layers
 
 -- the filter of this number
 unfoldable pub filter_at : Metamodel → Content → ℕ → Place → Filter → Validated CheckedFilter
@@ -31,10 +36,14 @@ filter_at mm content n place filter =
     <*> each (λ i name. at (place / codes "mappings" ! i) (mapping_found content name)) filter.mappings
     <*> expression_at mm own_scope (place / codes "hides") filter.hides
 
+-- the layers have no parts of their own
+abbrev pub all_parts : ℕ → ⊤ → List ℕ → List CheckedMapping → List CheckedFilter → List CheckedTool → Parts
+all_parts domain layers top mappings filters tools = record { domain = domain; top = top; mappings = mappings; filters = filters; tools = tools }
+
 -- all parts of a viewpoint
 unfoldable pub checked : Metamodel → Content → Validated Parts
 checked mm content =
-    good (λ domain _ top mappings filters tools. record { domain = domain; top = top; mappings = mappings; filters = filters; tools = tools })
+    good all_parts
     <*> at (diagram / codes "domain") (class_found mm content.domain)
     <*> layers_at content
     <*> children_at content [] (diagram / codes "top") (top_list content)

@@ -1,5 +1,5 @@
 -- What a name of a viewpoint names, or what is wrong with it first.
-use Rattle.std.specs.Prelude.{⊤, ℕ, Bool, true, false, not, ◌&&◌, ◌||◌, List, [], ◌∷◌, length, find, position, slice_get, Option, Some, None, Result, Ok, Err, if◌then◌else◌, option_and_then}
+use Rattle.std.specs.Prelude.{⊤, ℕ, Bool, true, false, not, ◌&&◌, List, position, slice_get, Option, Some, None, Result, Ok, Err}
 use Rattle.std.specs.Option.{option_map_or}
 use Rattle.std.specs.List.{list_any}
 use Rattle.wb_base.specs.Names.{same_name}

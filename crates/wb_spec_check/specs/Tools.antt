@@ -1,5 +1,5 @@
 -- The checks of tools and their operations, in the order of the walk.
-use Rattle.std.specs.Prelude.{⊤, ℕ, suc, List, [], ◌∷◌, ◌++◌, Option, Some, None, map, take, codes}
+use Rattle.std.specs.Prelude.{ℕ, suc, List, [], ◌∷◌, ◌++◌, Option, Some, None, map, take, codes}
 use Rattle.wb_json.specs.Place.{Place}
 use Rattle.wb_metamodel.specs.Metamodel.{Metamodel}
 use Rattle.wb_aql_check.specs.declared.checked.Origin.{Origin}
@@ -12,7 +12,7 @@ use Rattle.wb_spec_check.specs.Findings.{feature_found, made_class, own_name, re
 use Rattle.wb_spec_check.specs.Mappings.{expression_at}
 use Rattle.wb_spec_check.specs.Places.{◌/◌, ◌!◌}
 use Rattle.wb_spec_check.specs.Scopes.{scope_inside, tool_scope}
-use Rattle.wb_spec_check.specs.Validated.{Validated, good, bad, ◌<*>◌, at, optional}
+use Rattle.wb_spec_check.specs.Validated.{Validated, good, ◌<*>◌, at, optional}
 use Rattle.wb_spec_check.specs.declared.checked_tools.CheckedOperation.{CheckedOperation}
 use Rattle.wb_spec_check.specs.declared.checked_tools.CheckedTool.{CheckedTool}
 

@@ -1,5 +1,5 @@
 -- The expression that a unit's name fixes, and that of an operation of a tool.
-use Rattle.std.specs.Prelude.{ℕ, zero, suc, ◌-◌, List, [], ◌∷◌, length, slice_get, Option, Some, None, option_map, option_and_then}
+use Rattle.std.specs.Prelude.{ℕ, zero, suc, ◌-◌, List, length, slice_get, Option, Some, None, option_map}
 use Rattle.wb_base.specs.Options.{◌>>=◌}
 use Rattle.wb_aql_check.specs.declared.checked.Origin.{Origin}
 use Rattle.wb_diagram.specs.declared.keys.AnyKey.{AnyKey}
@@ -11,7 +11,6 @@ use Rattle.wb_spec_check.specs.Checked.{Specification}
 use Rattle.wb_spec_check.specs.declared.checked_filters.CheckedFilter.{CheckedFilter}
 use Rattle.wb_spec_check.specs.declared.checked_looks.CheckedLooks.{CheckedLooks}
 use Rattle.wb_spec_check.specs.declared.checked_looks.CheckedStyle.{CheckedStyle}
-use Rattle.wb_spec_check.specs.declared.checked_mappings.CheckedEdge.{CheckedEdge}
 use Rattle.wb_spec_check.specs.declared.checked_mappings.CheckedForm.{CheckedForm}
 use Rattle.wb_spec_check.specs.declared.checked_mappings.CheckedForm.TheVariants.{Node, Edge}
 use Rattle.wb_spec_check.specs.declared.checked_mappings.CheckedMapping.{CheckedMapping}
@@ -98,15 +97,19 @@ expression_of spec (u.Filter f it) = hides_of spec f
 
 -- ---- operations
 
--- place 0 is the precondition of a tool; its operations have their numbers from 1 on, each before those inside it
+-- a tool's operations have their numbers from 1 on, each before those inside it
+abbrev pub operation_at_place : CheckedTool → ℕ → Option CheckedOperation
+operation_at_place tool zero = None
+operation_at_place tool (suc i) = slice_get tool.operations i
+
+-- place 0 is the precondition
 abbrev pub expression_at_place : CheckedTool → ℕ → Option Expression
 expression_at_place tool zero = tool.precondition
-expression_at_place tool (suc i) = slice_get tool.operations i >>= (λ operation. operation.expression)
+expression_at_place tool (suc i) = operation_at_place tool (suc i) >>= (λ operation. operation.expression)
 
 unfoldable pub tool_expression : Specification → (tool : ℕ) → (place : ℕ) → Option Expression
 tool_expression spec tool place = slice_get spec.1.tools tool >>= (λ it. expression_at_place it place)
 
 -- the class of the objects that an operation makes
-abbrev pub class_of_operation : Specification → (tool : ℕ) → (place : ℕ) → Option ℕ
-class_of_operation spec tool zero = None
-class_of_operation spec tool (suc i) = slice_get spec.1.tools tool >>= (λ it. slice_get it.operations i >>= (λ operation. operation.class))
+unfoldable pub class_of_operation : Specification → (tool : ℕ) → (place : ℕ) → Option ℕ
+class_of_operation spec tool place = slice_get spec.1.tools tool >>= (λ it. operation_at_place it place >>= (λ operation. operation.class))

@@ -1,11 +1,8 @@
 ghost use Rattle.std.specs.Prelude.{◌≡◌};
 ghost use Rattle.wb_spec_check.specs.Checked.{IsGood};
-ghost use Rattle.wb_spec_check.specs.Units.{expression_of, tool_expression};
 
 use crate::parts::Parts;
 use std::marker::Model;
-use wb_diagram::Unit;
-use wb_expressions::Checked;
 use wb_viewpoint::Viewpoint;
 
 /// A viewpoint without problems. Contracts see what its text says, and its parts.

@@ -26,7 +26,9 @@ mod roles;
 mod scope_texts;
 mod scopes;
 mod spots;
+mod tool_expressions;
 mod tools;
+mod units;
 
 pub use checked_filters::CheckedFilter;
 pub use checked_looks::{CheckedLooks, CheckedStyle};

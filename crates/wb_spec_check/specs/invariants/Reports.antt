@@ -1,6 +1,7 @@
 -- What a step of the check tells: its value, and its problems behind those that were told before.
 use Rattle.std.specs.Prelude.{◌≡◌, ⊤, ℕ, take, List, [], ◌∷◌, ◌++◌, Option, Some, None, Result, Ok, Err}
 use Rattle.wb_json.specs.Place.{Place}
+use Rattle.wb_spec_check.specs.Checked.{none_needed}
 use Rattle.wb_spec_check.specs.Validated.{Finding, Validated, each, problems_of, value_of}
 use Rattle.wb_spec_check.specs.declared.problem.Problem.{Problem}
 
@@ -37,9 +38,6 @@ and_then xs x = Some (λ ys y. ys ++ y ∷ []) <&> xs <&> x
 -- the first items of a list were checked, and told this
 pub record Gathers {A B : Type 0} (check : ℕ → A → Validated B) (items : List A) (checked : ℕ) (old : List Problem) (given : Option (List B)) (new : List Problem) : Type 0 where
   pub so_far : Tells (each check (take checked items)) old given new
-
-abbrev pub none_needed : List ⊤ → ⊤
-none_needed values = tt
 
 abbrev pub both_good : ⊤ → ⊤ → ⊤
 both_good x y = tt

@@ -1,4 +1,4 @@
-use Rattle.std.proofs.Common.{◌≡◌, ◌&&◌, refl, sym, ap, ap₂, ◌∙◌}
+use Rattle.std.proofs.Common.{◌&&◌, sym, ap, ap₂}
 use Rattle.wb_base.specs.Names.{same_name}
 use Rattle.wb_ecore.specs.declared.features.Feature.{Feature}
 use Rattle.wb_spec_check.proofs.OwnNames.{gains, keeps}

@@ -1,4 +1,4 @@
-use Rattle.std.proofs.Common.{◌≡◌, ◌∙◌, sym, ap, Some, None}
+use Rattle.std.proofs.Common.{◌∙◌, sym, ap}
 use Rattle.wb_ecore.specs.invariants.NumberedNames.{number_of}
 use Rattle.wb_spec_check.proofs.OwnNames.{repeated, not_repeated, not_there}
 use Rattle.wb_spec_check.proofs.own_names.own_name.Goals as goal

@@ -1,4 +1,4 @@
-use Rattle.std.proofs.Common.{rules, ◌≡◌, ◌∙◌, sym, arith}
+use Rattle.std.proofs.Common.{rules}
 use Rattle.wb_json.specs.Place.{pointer_segment, index_segment}
 use Rattle.wb_spec_check.specs.Places.{place_of}
 use Rattle.wb_spec_check.proofs.Steps.{place_root, place_member, place_item, pushed_on}

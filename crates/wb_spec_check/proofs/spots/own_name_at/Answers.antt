@@ -1,4 +1,3 @@
-use Rattle.std.proofs.Common.{◌≡◌, ◌∙◌, sym, ap}
 use Rattle.wb_spec_check.proofs.Steps.{place_member}
 use Rattle.wb_spec_check.proofs.spots.own_name_at.Goals as goal
 

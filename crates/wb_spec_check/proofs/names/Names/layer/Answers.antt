@@ -1,4 +1,4 @@
-use Rattle.std.proofs.Common.{◌≡◌, ◌∙◌, sym, ap, Some, None}
+use Rattle.std.proofs.Common.{◌∙◌, sym, ap, Some, None}
 use Rattle.wb_ecore.specs.invariants.NumberedNames.{number_of}
 use Rattle.wb_expressions.specs.declared.problem.ProblemCode.TheVariants as code
 use Rattle.wb_metamodel.specs.Metamodel.{Metamodel}
