@@ -1,9 +1,8 @@
 -- The names that a run asks for are a front of those that its course asks for in turn.
-use Rattle.std.proofs.Common.{◌≡◌, ◌∙◌, sym, ap, refl, ℕ, zero, suc, Bool, true, false, cond, List, [], ◌∷◌, ◌++◌, map, take, Option, Some, None, IsSome}
+use Rattle.std.proofs.Common.{◌≡◌, ◌∙◌, ap, refl, ℕ, zero, suc, Bool, true, false, cond, List, [], ◌∷◌, ◌++◌, take, None, IsSome}
 use Rattle.std.proofs.lemmas.List.{map-append}
 use Rattle.std.proofs.lemmas.Slice.Eq.{bytes_eq-Decides}
 use Rattle.wb_base.specs.Names.{same_name}
-use Rattle.wb_outer.specs.declared.shelf.Taken.{Taken}
 use Rattle.wb_outer.specs.declared.shelf.Call.{Call}
 use Rattle.wb_program.specs.declared.answer.Answer.{Answer}
 use Rattle.wb_program.specs.Course.{Course, gives, stops, asks, ◌>>=◌, after}

@@ -1,5 +1,5 @@
 -- Each answer that a course comes to has its cause.
-use Rattle.std.proofs.Common.{codes, Result, Ok, Err, ◌≡◌, ◌∙◌, sym, ap, subst, refl, ℕ, Bool, true, false, cond, ◌||◌, List, [], ◌∷◌, Option, Some, None}
+use Rattle.std.proofs.Common.{codes, Result, Ok, Err, ◌≡◌, sym, subst, refl, ℕ, Bool, true, false, cond, ◌||◌, List, [], ◌∷◌, Option, Some, None}
 use Rattle.std.proofs.Math.Bool.{or_assoc, or-true, or-false}
 use Rattle.wb_base.specs.Names.{same_name}
 use Rattle.wb_base.specs.Options as options

@@ -1,7 +1,6 @@
 -- Laws of courses: what is left of a step and the next one, after calls.
-use Rattle.std.proofs.Common.{◌≡◌, ◌∙◌, sym, ap, refl, ℕ, Bool, true, false, cond, List, [], ◌∷◌, ◌++◌, Option, Some, None, IsSome}
+use Rattle.std.proofs.Common.{◌≡◌, ap, refl, Bool, true, false, cond, List, [], ◌∷◌, ◌++◌, Some, None, IsSome}
 use Rattle.wb_base.specs.Names.{same_name}
-use Rattle.wb_outer.specs.declared.shelf.Taken.{Taken}
 use Rattle.wb_outer.specs.declared.shelf.Call.{Call}
 use Rattle.wb_program.specs.declared.answer.Answer.{Answer}
 use Rattle.wb_program.specs.Course.{Course, gives, stops, asks, ◌>>=◌, after}

@@ -1,5 +1,5 @@
 -- How a run ends, of what it decides on and what the sink answers.
-use Rattle.std.proofs.Common.{◌≡◌, ◌∙◌, sym, ap, subst, refl, ℕ, ◌⊎◌, Bool, true, false, List, Option, Some, None, IsSome, IsErr, IfSome, IfOk, [], Result, Ok, Err, inl, inr}
+use Rattle.std.proofs.Common.{◌≡◌, ◌∙◌, sym, ap, subst, refl, ℕ, ◌⊎◌, Bool, true, false, List, Option, Some, None, IsSome, IfSome, IfOk, [], Result, Ok, Err, inl, inr}
 use Rattle.wb_base.specs.Options as options
 use Rattle.wb_outer.specs.Faults.{Rose}
 use Rattle.wb_outer.specs.declared.shelf.Call.{Call}
@@ -10,12 +10,12 @@ use Rattle.wb_program.specs.declared.status.Status.TheVariants.{ShelfFault, Sink
 use Rattle.wb_program.specs.declared.answer.Answer.{Answer}
 use Rattle.wb_program.specs.declared.answer.Ending.{Ending}
 use Rattle.wb_program.specs.declared.answer.Ending.TheVariants as ending
-use Rattle.wb_program.specs.Course.{Course, gives, stops, asks, after, answered, play}
+use Rattle.wb_program.specs.Course.{Course, stops, after, answered, play}
 use Rattle.wb_program.specs.Files.{Files, answer_over}
 use Rattle.wb_program.specs.Causes.{IsCaused, HasCauses, some_failed}
 use Rattle.wb_program.specs.Asked.{AsksInTurn, AsksFront}
-use Rattle.wb_program.specs.Steps.{AreOf, Gave, Reaches, Went}
-use Rattle.wb_program.specs.Runs.{Prints, Fails, IsPrinted, IsPlayed, Settles, Concludes, IsDecision, Runs, IsOfFiles}
+use Rattle.wb_program.specs.Steps.{AreOf, Reaches, Went}
+use Rattle.wb_program.specs.Runs.{IsPrinted, IsPlayed, Settles, Concludes, IsDecision, Runs, IsOfFiles}
 use Rattle.wb_program.proofs.CausedAnswers.{AnswerCaused, play_caused}
 use Rattle.wb_program.proofs.AskedNames.{front_asked, front_of}
 use Rattle.wb_program.proofs.OverFiles.{play_over}

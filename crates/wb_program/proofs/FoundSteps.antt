@@ -1,12 +1,12 @@
 -- What a private step finds is a step of the run that asks nothing of the shelf.
-use Rattle.std.proofs.Common.{◌≡◌, ◌∙◌, sym, ap, subst, refl, Option, Some, None, Result, Ok, Err}
+use Rattle.std.proofs.Common.{◌∙◌, sym, ap, subst, refl, Option, Some, Result, Ok, Err}
 use Rattle.wb_program.specs.declared.answer.Ending.{Ending}
 use Rattle.wb_program.specs.declared.answer.Ending.TheVariants as ending
 use Rattle.wb_program.specs.declared.refusal.Refusal.{Refusal}
 use Rattle.wb_program.specs.declared.refusal.Refusal.TheVariants as refusal
 use Rattle.wb_program.specs.Answers.{not_built}
 use Rattle.wb_program.specs.Refusal.{Finds}
-use Rattle.wb_program.specs.Course.{Course, gives, stops}
+use Rattle.wb_program.specs.Course.{stops}
 use Rattle.wb_program.specs.Reading.{or_else}
 use Rattle.wb_program.specs.Steps.{Reaches, Turns}
 

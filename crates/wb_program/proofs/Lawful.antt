@@ -1,5 +1,5 @@
 -- Laws of the course of a run: its answers have their causes, and it asks for the words' files in turn.
-use Rattle.std.proofs.Common.{◌≡◌, refl, ℕ, Bool, false, List, [], ◌∷◌, length, cond, true, Option, Some, None, IfOk, Result, Ok, Err, option_map, subst}
+use Rattle.std.proofs.Common.{◌≡◌, refl, ℕ, Bool, false, List, [], ◌∷◌, length, cond, true, Option, Some, None, IfOk, Result, Ok, Err, option_map, option_and_then, subst}
 use Rattle.wb_outer.specs.declared.shelf.Taken.{Taken}
 use Rattle.wb_outer.specs.declared.shelf.Taken.TheVariants.{Bytes, TooBig, Failed}
 use Rattle.wb_outer.specs.Shelf.{ShelfTold}
@@ -17,9 +17,9 @@ use Rattle.wb_program.specs.declared.opening.ModelFile.{ModelFile}
 use Rattle.wb_program.specs.declared.viewpoint.Viewpoint.{Viewpoint}
 use Rattle.wb_program.specs.Answers.{not_built, usage, no_root_element, line}
 use Rattle.wb_program.specs.CodeNames.{metamodel_code_name, viewpoint_code_name, model_code_name}
-use Rattle.wb_program.specs.Words.{Sources, Task, check, draw, serve, big, task_of, files_of}
-use Rattle.wb_program.specs.Course.{Course, gives, stops, asks, ◌>>=◌}
-use Rattle.wb_program.specs.Causes.{HasCauses, IsCaused}
+use Rattle.wb_program.specs.Words.{Sources, Task, check, draw, serve, big, task_in, texts_of, task_of, files_of}
+use Rattle.wb_program.specs.Course.{stops, ◌>>=◌}
+use Rattle.wb_program.specs.Causes.{HasCauses}
 use Rattle.wb_program.specs.Asked.{AsksInTurn}
 use Rattle.wb_program.specs.Taking.{taken, used}
 use Rattle.wb_program.specs.Reading.{or_refused, or_else}
@@ -29,7 +29,7 @@ use Rattle.wb_program.specs.Steps.{Went}
 use Rattle.wb_program.specs.Runs.{IsDecision, Settles}
 use Rattle.wb_program.specs.Opening.{metamodel_under, viewpoint_under, model_under, sized, root_in, is_thin_model, pictured, picture_of, picture_from, checking, drawing, task_course, course_for, course_of}
 use Rattle.wb_program.proofs.CausedAnswers.{AnyValue, AnswerCaused, causes_then, causes_taken, causes_or_refused, causes_or_else, not_built_caused, usage_caused, no_root_caused}
-use Rattle.wb_program.proofs.AskedNames.{turns_then, stops_anywhere}
+use Rattle.wb_program.proofs.AskedNames.{turns_then}
 use Rattle.wb_program.proofs.Endings.{decided, decided_at_once}
 
 -- ---- a file that is read
@@ -173,3 +173,16 @@ pub decided_none : {E : Type 0} (due : Option Task) (result : Result Answer E) (
     → None ≡ due → IfOk result (λ answer. answer ≡ usage) → IsDecision result (course_for due) told told
 decided_none due result told is h =
     subst (λ (t : Option Task). IsDecision result (course_for t) told told) is (decided_at_once usage result told h)
+
+-- what a run decides on for words that are texts, and for others
+pub decided_texts : {E : Type 0} (words texts : List (List ℕ)) (result : Result Answer E) (old new : ShelfTold)
+    → Some texts ≡ texts_of words → IsDecision result (course_for (task_in texts)) old new → IsDecision result (course_of words) old new
+unfolding course_of task_of
+decided_texts words texts result old new is h =
+    subst (λ (found : Option (List (List ℕ))). IsDecision result (course_for (option_and_then task_in found)) old new) is h
+
+pub decided_no_texts : {E : Type 0} (words : List (List ℕ)) (result : Result Answer E) (told : ShelfTold)
+    → None ≡ texts_of words → IfOk result (λ answer. answer ≡ usage) → IsDecision result (course_of words) told told
+unfolding course_of task_of
+decided_no_texts words result told is h =
+    subst (λ (found : Option (List (List ℕ))). IsDecision result (course_for (option_and_then task_in found)) told told) is (decided_at_once usage result told h)

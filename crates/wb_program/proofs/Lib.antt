@@ -11,7 +11,9 @@ pub mod OnTop
 pub mod OverFiles
 pub mod OverMetamodels
 pub mod Prefixes
+pub mod RootSteps
 pub mod Searches
 pub mod StepLemmas
 pub mod Taken
+pub mod Texts
 pub mod Walks

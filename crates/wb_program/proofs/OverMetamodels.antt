@@ -1,5 +1,5 @@
 -- A viewpoint that was read over a metamodel names classes of it, and mappings that it has.
-use Rattle.std.proofs.Common.{◌≡◌, ◌∙◌, sym, ap, subst, ℕ, suc, ◌<◌, nat_lt, Bool, true, false, cond, List, [], ◌∷◌, length, Option, Some, None, Result, Ok, Err, IfOk, refl}
+use Rattle.std.proofs.Common.{◌≡◌, ◌∙◌, sym, ap, subst, ℕ, suc, ◌<◌, nat_lt, Bool, List, [], ◌∷◌, length, Option, Some, None, Result, Ok, Err, IfOk, refl}
 use Rattle.std.specs.List.{position, position_or_len, AllByRecursion}
 use Rattle.std.proofs.lemmas.Option.{cond_some}
 use Rattle.std.proofs.lemmas.Bool.{ltb-true}
@@ -12,7 +12,7 @@ use Rattle.wb_viewpoint.specs.declared.objects.Objects.{Objects}
 use Rattle.wb_viewpoint.specs.declared.content.Content.{Content}
 use Rattle.wb_base.specs.Options.{◌>>=◌}
 use Rattle.wb_program.specs.Search.{each}
-use Rattle.wb_program.specs.Viewpoint.{mapping_for, mapping_over, fitting, plain_objects, candidates_in, style_for, mapping_named, top_for, parts_for, thin_viewpoint, has_thin_counts}
+use Rattle.wb_program.specs.Viewpoint.{mapping_for, mapping_over, fitting, plain_objects, candidates_in, style_for, mapping_named, top_for, parts_for}
 use Rattle.wb_program.specs.Over.{IsOver}
 use Rattle.wb_program.specs.Refusal.{Finds}
 use Rattle.wb_program.specs.declared.refusal.Refusal.{Refusal}

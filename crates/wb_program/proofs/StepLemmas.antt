@@ -1,5 +1,5 @@
 -- Steps one after another.
-use Rattle.std.proofs.Common.{◌≡◌, ◌∙◌, sym, ap, subst, refl, ℕ, cond, List, [], ◌∷◌, ◌++◌, Option, Some, None, IsSome, Result, Ok, Err}
+use Rattle.std.proofs.Common.{◌≡◌, sym, ap, subst, refl, ℕ, cond, List, [], ◌∷◌, ◌++◌, Some, None, Result, Ok, Err}
 use Rattle.std.specs.Result.{IsErrAnd}
 use Rattle.std.proofs.lemmas.Slice.Eq.{bytes_eq-Decides}
 use Rattle.wb_outer.specs.Shelf.{Gives}
@@ -9,8 +9,8 @@ use Rattle.wb_outer.specs.Shelf.{ShelfTold}
 use Rattle.wb_program.specs.declared.answer.Answer.{Answer}
 use Rattle.wb_program.specs.declared.answer.Ending.{Ending}
 use Rattle.wb_program.specs.declared.answer.Ending.TheVariants as ending
-use Rattle.wb_program.specs.Course.{Course, gives, stops, asks, ◌>>=◌, after}
-use Rattle.wb_program.specs.Steps.{Gave, Reaches, Went}
+use Rattle.wb_program.specs.Course.{Course, stops, asks, ◌>>=◌, after}
+use Rattle.wb_program.specs.Steps.{Reaches, Went, EndsWith}
 use Rattle.wb_program.proofs.Courses.{after_stops, after_some, after_gives}
 use Rattle.wb_program.proofs.Gifts.{gave_nothing, gave_one, gave_then}
 
@@ -50,3 +50,8 @@ went_asking r name next answer old new given h = record {
 pub returned : {A : Type 0} (r : Result A Ending) (e : Ending) (course : Course A) (old new : ShelfTold) → IsErrAnd r (λ other. other ≡ e) → Went (Err e) course old new → Went r course old new
 returned (Ok x) e course old new is h = absurd is
 returned (Err other) e course old new is h = subst (λ (ending : Ending). Went (Err ending) course old new) (sym is) h
+
+-- a step that ends the run with an answer
+pub ends_with : (A : Type 0) (e : Ending) (answer : Answer) → EndsWith e answer → Reaches {A = A} (Err e) (Some (stops answer))
+ends_with A (ending.Answer given) answer h = ap (λ a. Some (stops a)) (sym h)
+ends_with A ending.NoMemory answer h = refl

@@ -1,16 +1,15 @@
 -- Words of a form are taken by the command of the form, which finds each name in its place.
-use Rattle.std.proofs.Common.{◌≡◌, ◌∙◌, sym, ap, subst, refl, ℕ, Bool, true, false, not, ◌&&◌, List, [], ◌∷◌, length, codes, Option, Some, None, IsSome, eqb-true, arith}
-use Rattle.std.specs.List.{slice_index_or, list_all}
+use Rattle.std.proofs.Common.{◌≡◌, ◌∙◌, sym, ap, subst, refl, ℕ, Bool, true, false, not, List, [], ◌∷◌, length, codes, Option, Some, None, IsSome, eqb-true, arith}
+use Rattle.std.specs.List.{list_all}
 use Rattle.std.specs.Prelude.{nat_le, ◌==◌}
-use Rattle.std.specs.Str.Parse.{digits_value}
 use Rattle.std.proofs.lemmas.Bool.{and_parts, leb-true}
 use Rattle.std.proofs.lemmas.Bool.Decides.{nat_tests}
 use Rattle.std.proofs.lemmas.Slice.Eq.{bytes_eq-Decides}
 use Rattle.wb_base.specs.Names.{same_name}
-use Rattle.clap.specs.Words.{App, Text, first_of, first_value, found_of, matches_of, rows_of, takes}
+use Rattle.clap.specs.Words.{App, Text, first_of, first_value, matches_of, rows_of, takes}
 use Rattle.clap.specs.declared.parser.matches.Found.{Found}
 use Rattle.clap.proofs.WalkLemmas.{first_value-rows}
-use Rattle.wb_program.specs.Words.{is_file_name, is_number, is_numeral, is_digit, are_sources, is_check, is_draw, is_serve, is_limited_serve, is_big, word, most_connections, sources_in, Sources}
+use Rattle.wb_program.specs.Words.{is_file_name, is_number, is_numeral, is_digit, are_sources, is_check, is_draw, is_serve, is_limited_serve, is_big, word, most_connections, sources_in}
 use Rattle.wb_program.specs.Commands.{check_command, picture_command, draw_command, serve_command, limited_serve_command, big_command}
 use Rattle.wb_program.proofs.Walks.{IsPlainWord, check_takes, check_metamodel, check_viewpoint, picture_takes, picture_metamodel, picture_viewpoint, picture_model, limited_words, limited_takes, limited_metamodel, limited_viewpoint, limited_model, limited_connections, big_takes, big_number}
 

@@ -1,15 +1,13 @@
 -- What clap makes of words that are of a form.
-use Rattle.std.proofs.Common.{◌≡◌, ◌∙◌, sym, ap, subst, ℕ, List, [], ◌∷◌, codes, true, false, Bool, not, ◌&&◌, Some, None, refl, length, Option}
-use Rattle.std.specs.List.{slice_index_or}
+use Rattle.std.proofs.Common.{◌≡◌, ℕ, List, [], ◌∷◌, codes, true, false, Some, None, refl}
 use Rattle.std.specs.Str.{bytes_eq}
-use Rattle.std.specs.Prelude.{◌==◌}
 use Rattle.clap.specs.Lexer.{long_of, short_of}
-use Rattle.clap.specs.Walk.{Rule, Text, Held, Walk, idle, option, option_word, arg_by_id, settled, first_of, walked, nothing_held, to_positional, arg_by_index, Row}
-use Rattle.clap.specs.Simple.{App, is_simple, matches_of, built}
+use Rattle.clap.specs.Walk.{Rule, Text, Held, Walk, idle, option, option_word, arg_by_id, settled, first_of, walked, nothing_held, to_positional, arg_by_index}
+use Rattle.clap.specs.Simple.{matches_of, built}
 use Rattle.clap.specs.Takes.{takes, walk_passes}
 use Rattle.clap.proofs.OnLiterals.{clap_on_literals}
-use Rattle.wb_program.specs.Words.{is_file_name, is_check, is_draw, is_serve, is_limited_serve, is_big, word}
-use Rattle.wb_program.specs.Commands.{check_command, draw_command, serve_command, limited_serve_command, big_command, picture_command}
+use Rattle.wb_program.specs.Words.{word}
+use Rattle.wb_program.specs.Commands.{check_command, limited_serve_command, big_command, picture_command}
 
 -- the word is no flag
 pub record IsPlainWord (word : Text) : Type 0 where
@@ -48,8 +46,16 @@ check_rules = (built check_command).top.rules
 pub check_takes : (verb x y : Text) → IsPlainWord x → IsPlainWord y → takes check_command (verb ∷ x ∷ y ∷ []) ≡ true
 unfolding check_command walk_passes
 check_takes verb x y wx wy =
-    rw (wx.no_long, wx.no_short, wx.no_end, walked_plain check_rules nothing_held 1 x wx,
-    wy.no_long, wy.no_short, wy.no_end, walked_plain check_rules (then_held check_rules 1 x nothing_held) 2 y wy) refl
+    rw (
+      wx.no_long,
+      wx.no_short,
+      wx.no_end,
+      walked_plain check_rules nothing_held 1 x wx,
+      wy.no_long,
+      wy.no_short,
+      wy.no_end,
+      walked_plain check_rules (then_held check_rules 1 x nothing_held) 2 y wy,
+    ) refl
 
 pub check_metamodel : (verb x y : Text) → IsPlainWord x → IsPlainWord y → first_of (codes "metamodel") (matches_of check_command (verb ∷ x ∷ y ∷ [])) ≡ Some x
 unfolding check_command
@@ -74,9 +80,20 @@ two_files x y = then_held picture_rules 2 y (one_file x)
 pub picture_takes : (name verb x y z : Text) → IsPlainWord x → IsPlainWord y → IsPlainWord z → takes (picture_command name) (verb ∷ x ∷ y ∷ z ∷ []) ≡ true
 unfolding walk_passes
 picture_takes name verb x y z wx wy wz =
-    rw (wx.no_long, wx.no_short, wx.no_end, walked_plain picture_rules nothing_held 1 x wx,
-    wy.no_long, wy.no_short, wy.no_end, walked_plain picture_rules (one_file x) 2 y wy,
-    wz.no_long, wz.no_short, wz.no_end, walked_plain picture_rules (two_files x y) 3 z wz) refl
+    rw (
+      wx.no_long,
+      wx.no_short,
+      wx.no_end,
+      walked_plain picture_rules nothing_held 1 x wx,
+      wy.no_long,
+      wy.no_short,
+      wy.no_end,
+      walked_plain picture_rules (one_file x) 2 y wy,
+      wz.no_long,
+      wz.no_short,
+      wz.no_end,
+      walked_plain picture_rules (two_files x y) 3 z wz,
+    ) refl
 
 pub picture_metamodel : (name verb x y z : Text) → IsPlainWord x → IsPlainWord y → IsPlainWord z → first_of (codes "metamodel") (matches_of (picture_command name) (verb ∷ x ∷ y ∷ z ∷ [])) ≡ Some x
 picture_metamodel name verb x y z wx wy wz = rw (walked_plain picture_rules nothing_held 1 x wx, walked_plain picture_rules (one_file x) 2 y wy, walked_plain picture_rules (two_files x y) 3 z wz) refl
@@ -115,35 +132,69 @@ limited_words verb x y z n = verb ∷ x ∷ y ∷ z ∷ codes "--connections" �
 pub limited_takes : (verb x y z n : Text) → IsPlainWord x → IsPlainWord y → IsPlainWord z → IsPlainWord n → takes limited_serve_command (limited_words verb x y z n) ≡ true
 unfolding limited_serve_command walk_passes
 limited_takes verb x y z n wx wy wz wn =
-    rw (wx.no_long, wx.no_short, wx.no_end, walked_plain limited_rules nothing_held 1 x wx,
-    wy.no_long, wy.no_short, wy.no_end, walked_plain limited_rules (first_held x) 2 y wy,
-    wz.no_long, wz.no_short, wz.no_end, walked_plain limited_rules (second_held x y) 3 z wz,
-    walked_option (third_held x y z),
-    wn.no_long, wn.no_short, wn.no_end, walked_value limited_rules (codes "connections") (option_held (third_held x y z)) 4 n wn) refl
+    rw (
+      wx.no_long,
+      wx.no_short,
+      wx.no_end,
+      walked_plain limited_rules nothing_held 1 x wx,
+      wy.no_long,
+      wy.no_short,
+      wy.no_end,
+      walked_plain limited_rules (first_held x) 2 y wy,
+      wz.no_long,
+      wz.no_short,
+      wz.no_end,
+      walked_plain limited_rules (second_held x y) 3 z wz,
+      walked_option (third_held x y z),
+      wn.no_long,
+      wn.no_short,
+      wn.no_end,
+      walked_value limited_rules (codes "connections") (option_held (third_held x y z)) 4 n wn,
+    ) refl
 
 pub limited_metamodel : (verb x y z n : Text) → IsPlainWord x → IsPlainWord y → IsPlainWord z → IsPlainWord n → first_of (codes "metamodel") (matches_of limited_serve_command (limited_words verb x y z n)) ≡ Some x
 unfolding limited_serve_command
 limited_metamodel verb x y z n wx wy wz wn =
-    rw (walked_plain limited_rules nothing_held 1 x wx, walked_plain limited_rules (first_held x) 2 y wy, walked_plain limited_rules (second_held x y) 3 z wz,
-    walked_option (third_held x y z), walked_value limited_rules (codes "connections") (option_held (third_held x y z)) 4 n wn) refl
+    rw (
+      walked_plain limited_rules nothing_held 1 x wx,
+      walked_plain limited_rules (first_held x) 2 y wy,
+      walked_plain limited_rules (second_held x y) 3 z wz,
+      walked_option (third_held x y z),
+      walked_value limited_rules (codes "connections") (option_held (third_held x y z)) 4 n wn,
+    ) refl
 
 pub limited_viewpoint : (verb x y z n : Text) → IsPlainWord x → IsPlainWord y → IsPlainWord z → IsPlainWord n → first_of (codes "viewpoint") (matches_of limited_serve_command (limited_words verb x y z n)) ≡ Some y
 unfolding limited_serve_command
 limited_viewpoint verb x y z n wx wy wz wn =
-    rw (walked_plain limited_rules nothing_held 1 x wx, walked_plain limited_rules (first_held x) 2 y wy, walked_plain limited_rules (second_held x y) 3 z wz,
-    walked_option (third_held x y z), walked_value limited_rules (codes "connections") (option_held (third_held x y z)) 4 n wn) refl
+    rw (
+      walked_plain limited_rules nothing_held 1 x wx,
+      walked_plain limited_rules (first_held x) 2 y wy,
+      walked_plain limited_rules (second_held x y) 3 z wz,
+      walked_option (third_held x y z),
+      walked_value limited_rules (codes "connections") (option_held (third_held x y z)) 4 n wn,
+    ) refl
 
 pub limited_model : (verb x y z n : Text) → IsPlainWord x → IsPlainWord y → IsPlainWord z → IsPlainWord n → first_of (codes "model") (matches_of limited_serve_command (limited_words verb x y z n)) ≡ Some z
 unfolding limited_serve_command
 limited_model verb x y z n wx wy wz wn =
-    rw (walked_plain limited_rules nothing_held 1 x wx, walked_plain limited_rules (first_held x) 2 y wy, walked_plain limited_rules (second_held x y) 3 z wz,
-    walked_option (third_held x y z), walked_value limited_rules (codes "connections") (option_held (third_held x y z)) 4 n wn) refl
+    rw (
+      walked_plain limited_rules nothing_held 1 x wx,
+      walked_plain limited_rules (first_held x) 2 y wy,
+      walked_plain limited_rules (second_held x y) 3 z wz,
+      walked_option (third_held x y z),
+      walked_value limited_rules (codes "connections") (option_held (third_held x y z)) 4 n wn,
+    ) refl
 
 pub limited_connections : (verb x y z n : Text) → IsPlainWord x → IsPlainWord y → IsPlainWord z → IsPlainWord n → first_of (codes "connections") (matches_of limited_serve_command (limited_words verb x y z n)) ≡ Some n
 unfolding limited_serve_command
 limited_connections verb x y z n wx wy wz wn =
-    rw (walked_plain limited_rules nothing_held 1 x wx, walked_plain limited_rules (first_held x) 2 y wy, walked_plain limited_rules (second_held x y) 3 z wz,
-    walked_option (third_held x y z), walked_value limited_rules (codes "connections") (option_held (third_held x y z)) 4 n wn) refl
+    rw (
+      walked_plain limited_rules nothing_held 1 x wx,
+      walked_plain limited_rules (first_held x) 2 y wy,
+      walked_plain limited_rules (second_held x y) 3 z wz,
+      walked_option (third_held x y z),
+      walked_value limited_rules (codes "connections") (option_held (third_held x y z)) 4 n wn,
+    ) refl
 
 -- ---- `big`
 

@@ -1,5 +1,5 @@
 -- Which answers may come by decision, and what causes them.
-use Rattle.std.specs.Prelude.{◌≡◌, ℕ, ⊤, Bool, true, false, ◌||◌, List}
+use Rattle.std.specs.Prelude.{◌≡◌, ⊤, Bool, true, ◌||◌, List}
 use Rattle.std.specs.List.{list_any}
 use Rattle.wb_outer.specs.declared.shelf.Taken.{Taken}
 use Rattle.wb_outer.specs.Shelf.{has_failed}

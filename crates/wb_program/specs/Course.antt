@@ -1,5 +1,5 @@
 -- The course of a run: which files it asks the shelf for, one after another, and what it makes of what it is given.
-use Rattle.std.specs.Prelude.{ℕ, List, [], ◌∷◌, Option, Some, None, Bool, if◌then◌else◌}
+use Rattle.std.specs.Prelude.{ℕ, List, [], ◌∷◌, Option, Some, None, if◌then◌else◌}
 use Rattle.wb_base.specs.Names.{same_name}
 use Rattle.wb_base.specs.Options as options
 use Rattle.wb_outer.specs.declared.shelf.Taken.{Taken}

@@ -1,5 +1,5 @@
 -- Steps of a run that ask the shelf for files.
-use Rattle.std.specs.Prelude.{ℕ, ◌≡◌, ◌≤◌, true, List, [], ◌∷◌, ◌++◌, Option, Some, IfSome, IsSome, Result, Ok, Err, ⊤}
+use Rattle.std.specs.Prelude.{◌≡◌, ◌≤◌, true, List, [], ◌∷◌, ◌++◌, Option, Some, IfSome, IsSome, Result, Ok, Err, ⊤}
 use Rattle.wb_outer.specs.Faults.{Rose}
 use Rattle.wb_outer.specs.Shelf.{taken_of, IsUnlessFailed}
 use Rattle.wb_outer.specs.declared.shelf.Call.{Call}

@@ -1,5 +1,6 @@
 ghost use Rattle.std.specs.Prelude.{◌≡◌, ◌++◌, ◌∷◌, IfOk, OnOk, codes};
 ghost use Rattle.std.specs.List.{flat_map};
+ghost use Rattle.wb_program.specs.declared.answer.Answer.{Answer};
 ghost use Rattle.wb_program.specs.declared.answer.Ending.TheVariants.{NoMemory};
 ghost use Rattle.wb_program.specs.declared.status.Status.TheVariants.{ShelfFault, TooLarge};
 ghost use Rattle.wb_program.specs.Answers.{not_built, usage, cannot_read, too_large, bad, refused, no_root_element, line};
@@ -148,7 +149,14 @@ fn refused(alloc: Global, name: &[u8], place: &str, code: &str) -> Result<Answer
 pub fn refusal(alloc: Global, name: &[u8], place: &str, code: &str) -> Ending
     ensures { EndsWith result (refused name.now place.now code.now) }
 {
-    match refused(alloc, name, place, code) {
+    ended_by(refused(alloc, name, place, code))
+}
+
+/// The ending by an answer.
+pub fn ended_by(answer: Result<Answer, AllocError>) -> Ending
+    ensures { (due : Answer) → IfOk answer (λ given. given ≡ due) → EndsWith result due }
+{
+    match answer {
         Ok(answer) => Ending::Answer(answer),
         Err(_) => Ending::NoMemory,
     }

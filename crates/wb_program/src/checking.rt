@@ -1,7 +1,7 @@
 ghost use Rattle.wb_program.specs.Steps.{Went};
 ghost use Rattle.wb_program.specs.Opening.{checking};
 
-use crate::answer::{Answer, Ending, not_built};
+use crate::answer::{Answer, Ending, ended_by, not_built};
 use crate::opening::{take_metamodel, take_viewpoint};
 use std::alloc::Global;
 use wb_outer::Shelf;
@@ -17,5 +17,5 @@ pub fn check<H: Shelf>(
 {
     let _metamodel = take_metamodel(alloc, shelf, metamodel)?;
     let _viewpoint = take_viewpoint(alloc, shelf, viewpoint)?;
-    Err(Ending::Answer(not_built(alloc)?))
+    Err(ended_by(not_built(alloc)))
 }

@@ -116,10 +116,7 @@ fn big_command<'a>(alloc: Global) -> Result<Command<'a>, AllocError>
 }
 
 /// What a command finds in words that it takes.
-fn matches_of<'a>(
-    command: Command<'a>,
-    words: &'a [&'a str],
-) -> Result<ArgMatches<'a>, AllocError>
+fn matches_of<'a>(command: Command<'a>, words: &'a [&'a str]) -> Result<ArgMatches<'a>, AllocError>
     requires { takes (app_of command) (map (λ word. word.now) words.now) ≡ true }
     ensures { IfOk result (λ matches. rows_of (found_of matches) ≡ matches_of (app_of command.entry) (map (λ word. word.now) words.now)) }
 {

@@ -8,7 +8,7 @@ ghost use Rattle.wb_program.specs.Picture.{served};
 ghost use Rattle.wb_program.specs.Tasks.{shown_sources};
 ghost use Rattle.wb_program.specs.Opening.{drawing, is_thin_model, picture_from, picture_of, pictured, root_in};
 
-use crate::answer::{Answer, Ending, no_root_element, not_built};
+use crate::answer::{Answer, Ending, ended_by, no_root_element, not_built};
 use crate::candidates::root_element;
 use crate::opening::{ModelFile, take_metamodel, take_model, take_viewpoint};
 use crate::picture::served;
@@ -50,7 +50,7 @@ fn picture_from(
 {
     match root_in(&file.model, &content.domain) {
         Some(root) => settle(alloc, picture_of(alloc, content, file, root)),
-        None => Err(Ending::Answer(no_root_element(alloc, name)?)),
+        None => Err(ended_by(no_root_element(alloc, name))),
     }
 }
 

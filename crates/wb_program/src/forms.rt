@@ -16,7 +16,10 @@ const MOST_BOOKS: u32 = 2_000;
 pub fn is_check(words: &[&str]) -> bool
     ensures { result ≡ asked.is_check (map (λ word. word.now) words.now) }
 {
-    words.len() == 3 && is_same(words[0], "check") && is_file_name(words[1]) && is_file_name(words[2])
+    words.len() == 3
+        && is_same(words[0], "check")
+        && is_file_name(words[1])
+        && is_file_name(words[2])
 }
 
 /// `draw META SPEC MODEL`

@@ -8,7 +8,7 @@ ghost use Rattle.wb_program.specs.Asked.{AsksFront};
 ghost use Rattle.wb_program.specs.Steps.{Went};
 ghost use Rattle.wb_program.specs.Runs.{Runs, IsOfFiles, IsPrinted, IsDecision, Settles};
 
-use crate::answer::{Answer, Ending, not_built, usage};
+use crate::answer::{Answer, Ending, ended_by, not_built, usage};
 use crate::checking::check;
 use crate::drawing::draw;
 use crate::status::Status;
@@ -89,7 +89,8 @@ fn perform<H: Shelf>(alloc: Global, shelf: &mut H, task: Task<'_>) -> Result<Ans
     match task {
         Task::Check(metamodel, viewpoint) => check(alloc, shelf, metamodel, viewpoint),
         Task::Draw(sources) => draw(alloc, shelf, sources),
-        Task::Serve(..) | Task::Big(_) => Err(Ending::Answer(not_built(alloc)?)),
+        Task::Serve(..) => Err(ended_by(not_built(alloc))),
+        Task::Big(_) => Err(ended_by(not_built(alloc))),
     }
 }
 

@@ -39,11 +39,7 @@ pub fn thin_viewpoint(
 }
 
 #[tactic(auto, unfolding(crate::specs::Viewpoint::parts_for))]
-fn parts_for(
-    alloc: Global,
-    metamodel: &Metamodel,
-    content: &Content,
-) -> Result<Viewpoint, Refusal>
+fn parts_for(alloc: Global, metamodel: &Metamodel, content: &Content) -> Result<Viewpoint, Refusal>
     requires { length content.now.mappings ≤ 16 }
     ensures { Finds result (parts_for metamodel.now content.now) }
 {
@@ -238,10 +234,7 @@ fn label_in(
     ensures { Finds result (thin.label_in metamodel.now class label.now) }
 {
     match label {
-        Some(text) => Ok(Some(copied(
-            alloc,
-            text_in(metamodel, class, text.as_str()),
-        )?)),
+        Some(text) => Ok(Some(copied(alloc, text_in(metamodel, class, text.as_str()))?)),
         None => Ok(None),
     }
 }

@@ -1,4 +1,4 @@
-use Rattle.std.proofs.Common.{◌∙◌, sym, ap, ap₂, map, codes, subst}
+use Rattle.std.proofs.Common.{◌∙◌, sym, ap, map, codes, subst}
 use Rattle.clap.specs.Words.{app_of, found_of}
 use Rattle.wb_program.specs.Words as asked
 use Rattle.wb_program.specs.Words.{word}

@@ -1,6 +1,5 @@
-use Rattle.std.proofs.Common.{◌∙◌, sym, ap, ap₂, map, codes, subst}
+use Rattle.std.proofs.Common.{map, codes}
 use Rattle.clap.specs.Words.{app_of, found_of}
-use Rattle.wb_program.specs.Words as asked
 use Rattle.wb_program.specs.Words.{word}
 use Rattle.wb_program.specs.Commands.{draw_command}
 use Rattle.wb_program.proofs.Taken.{takes_draw, taken_by, rows_by, is_found, are_sources_of}

@@ -1,3 +1,6 @@
+use Rattle.std.proofs.Common.{subst, Some}
+use Rattle.wb_viewpoint.specs.declared.content.Content.{Content}
+use Rattle.wb_program.specs.Steps.{Reaches}
 use Rattle.wb_program.specs.Opening.{metamodel_under, viewpoint_under, model_under, picture_from, drawing}
 use Rattle.wb_program.proofs.StepLemmas.{returned, stopped, gone_on, went_nowhere}
 use Rattle.wb_program.proofs.drawing.draw.Goals as goal
@@ -25,4 +28,8 @@ returns-in_err-file g c =
 
 pub returns : goal.returns
 unfolding drawing
-returns g c = ?
+returns g c =
+    gone_on c.in_ok-metamodel.metamodel c.picture_from.result (metamodel_under c.args.sources.metamodel.now) _ _ _ _ c.in_ok-metamodel.ensures
+    (gone_on c.in_ok-viewpoint.viewpoint c.picture_from.result (viewpoint_under c.args.sources.viewpoint.now) _ _ _ _ c.in_ok-viewpoint.ensures
+    (gone_on c.in_ok-file.file c.picture_from.result (model_under c.in_ok-metamodel.metamodel c.args.sources.model.now) (picture_from c.args.sources.model.now c.in_ok-viewpoint.viewpoint) _ _ _ c.in_ok-file.ensures
+    (went_nowhere c.picture_from.result _ _ (subst (λ (content : Content). Reaches c.picture_from.result (Some (picture_from c.args.sources.model.now content c.in_ok-file.file))) c.content.ensures.same c.picture_from.ensures))))

@@ -1,5 +1,3 @@
-use Rattle.std.proofs.Common.{subst, ℕ, ◌≡◌, IfOk}
-use Rattle.std.specs.Str.Parse.{digits_value}
 use Rattle.wb_program.proofs.Numerals.{is_read}
 use Rattle.wb_program.proofs.forms.number_in.Goals as goal
 
