@@ -4,7 +4,7 @@
     python3 expected/compare.py
 
 The words of such a program, in its `args`, are files in threes: a metamodel, a model, and a script of edits and looks or a file of
-expressions. Or they are one `.json` file of cases of the whole program. Its `stdout` is what the gate holds its output to.
+expressions. Or they are `.json` files of cases of the whole program. Its `stdout` is what the gate holds its output to.
 """
 import glob, itertools, os, sys
 import evaluations, models, program
@@ -15,8 +15,8 @@ MAKERS = {".script": models.lines, ".expressions": evaluations.lines}
 
 def made(folder, names):
     """The lines for all files of a program; none where it is of another kind."""
-    if len(names) == 1 and names[0].endswith(".json"):
-        return list(program.lines(os.path.join(folder, "data", names[0])))
+    if names and all(name.endswith(".json") for name in names):
+        return list(itertools.chain.from_iterable(program.lines(os.path.join(folder, "data", name)) for name in names))
     if len(names) % 3 or not names or {os.path.splitext(name)[1] for name in names[2::3]} - set(MAKERS):
         return None
     files = [os.path.join(folder, "data", name) for name in names]

@@ -1,5 +1,5 @@
 //! The cases of a file, each an object of JSON: its name, its words, its files (each the name on the shelf, and the file of
-//! `data/` that stands there, or `spaces` and how many) and the numbers of the calls of shelf and sink that fail.
+//! `data/` that stands there, or `text` and the text, or `spaces` and how many) and the numbers of the calls of shelf and sink that fail.
 use crate::runs::push_run;
 use std::alloc::Global;
 use wb_base::{List, Text};
@@ -98,12 +98,20 @@ fn file_of<H: Shelf>(alloc: Global, from: &mut H, pair: &[Text]) -> Result<(Byte
             let bytes = file_in(alloc, from, file.as_slice())?;
             Ok((Bytes::from_slice(alloc, name.as_slice())?, bytes))
         }
-        [name, _spaces, count] => {
-            let bytes = spaces(alloc, count.as_str())?;
+        [name, sort, told] => {
+            let bytes = made(alloc, sort.as_str(), told.as_str())?;
             Ok((Bytes::from_slice(alloc, name.as_slice())?, bytes))
         }
         _ => Err(Wrong::here(alloc)),
     }
+}
+
+/// The text itself, or so many spaces.
+fn made(alloc: Global, sort: &str, told: &str) -> Result<Bytes, Wrong> {
+    if sort == "text" {
+        return Ok(Bytes::from_slice(alloc, told.as_bytes())?);
+    }
+    spaces(alloc, told)
 }
 
 /// So many spaces.

@@ -23,11 +23,15 @@ use Rattle.wb_program.specs.Causes.{HasCauses}
 use Rattle.wb_program.specs.Asked.{AsksInTurn}
 use Rattle.wb_program.specs.Taking.{taken, used}
 use Rattle.wb_program.specs.Reading.{or_refused, or_else}
+use Rattle.wb_program.specs.Checking.{check_answer, or_bad}
+use Rattle.wb_spec_check.specs.Checked.{checked}
+use Rattle.wb_spec_check.specs.Validated.{Validated, good, bad}
+use Rattle.wb_spec_check.specs.declared.parts.Parts.{Parts}
 use Rattle.wb_program.specs.Viewpoint.{thin_viewpoint}
 use Rattle.wb_program.specs.Picture.{served}
 use Rattle.wb_program.specs.Steps.{Went}
 use Rattle.wb_program.specs.Runs.{IsDecision, Settles}
-use Rattle.wb_program.specs.Opening.{metamodel_under, viewpoint_under, model_under, sized, root_in, is_thin_model, pictured, picture_of, picture_from, checking, drawing, task_course, course_for, course_of}
+use Rattle.wb_program.specs.Opening.{metamodel_under, viewpoint_under, model_under, sized, root_in, is_thin_model, pictured, picture_of, picture_from, checked_under, checking, drawing, task_course, course_for, course_of}
 use Rattle.wb_program.proofs.CausedAnswers.{AnyValue, AnswerCaused, causes_then, causes_taken, causes_or_refused, causes_or_else, not_built_caused, usage_caused, no_root_caused}
 use Rattle.wb_program.proofs.AskedNames.{turns_then}
 use Rattle.wb_program.proofs.Endings.{decided, decided_at_once}
@@ -112,33 +116,57 @@ turns_picture name content file =
     turns_then [] [] (or_else (no_root_element name) (root_in file.model content.domain)) _ (turns_or_else (no_root_element name) (root_in file.model content.domain))
     (λ root. turns_or_else not_built (picture_of content file root))
 
+-- ---- the check of a viewpoint
+
+ok_or_lines : (failed : Bool) (found : Validated Parts) → AnswerCaused failed (check_answer found)
+ok_or_lines failed (good parts) = tt
+ok_or_lines failed (bad problem problems) = tt
+
+causes_or_bad : (name : List ℕ) (content : Content) (found : Validated Parts) (failed : Bool) → HasCauses AnyValue failed (or_bad name content found)
+causes_or_bad name content (good parts) failed = tt
+causes_or_bad name content (bad problem problems) failed = tt
+
+turns_or_bad : (name : List ℕ) (content : Content) (found : Validated Parts) → AsksInTurn [] (or_bad name content found)
+turns_or_bad name content (good parts) = tt
+turns_or_bad name content (bad problem problems) = tt
+
+causes_checked : (mm : Metamodel) (name : List ℕ) (failed : Bool) → HasCauses AnyValue failed (checked_under mm name)
+unfolding checked_under
+causes_checked mm name failed =
+    causes_then AnyValue failed (viewpoint_under name) (λ content. or_bad name content (checked mm content)) (causes_viewpoint name failed) (λ content b. causes_or_bad name content (checked mm content) b)
+
+turns_checked : (mm : Metamodel) (name : List ℕ) → AsksInTurn (name ∷ []) (checked_under mm name)
+unfolding checked_under
+turns_checked mm name =
+    turns_then (name ∷ []) [] (viewpoint_under name) (λ content. or_bad name content (checked mm content)) (turns_viewpoint name) (λ content. turns_or_bad name content (checked mm content))
+
 -- ---- the whole
 
 causes_checking : (mm_name name : List ℕ) (failed : Bool) → HasCauses AnswerCaused failed (checking mm_name name)
 unfolding checking
 causes_checking mm_name name failed =
     causes_then AnswerCaused failed (metamodel_under mm_name) _ (causes_metamodel mm_name failed) (λ mm b.
-    causes_then AnswerCaused b (viewpoint_under name) (λ content. stops not_built) (causes_viewpoint name b) (λ content d. not_built_caused d))
+    causes_then AnswerCaused b (viewpoint_under name) (λ content. gives (check_answer (checked mm content))) (causes_viewpoint name b) (λ content d. ok_or_lines d (checked mm content)))
 
 turns_checking : (mm_name name : List ℕ) → AsksInTurn (mm_name ∷ name ∷ []) (checking mm_name name)
 unfolding checking
 turns_checking mm_name name =
     turns_then (mm_name ∷ []) (name ∷ []) (metamodel_under mm_name) _ (turns_metamodel mm_name) (λ mm.
-    turns_then (name ∷ []) [] (viewpoint_under name) (λ content. stops not_built) (turns_viewpoint name) (λ content. tt))
+    turns_then (name ∷ []) [] (viewpoint_under name) (λ content. gives (check_answer (checked mm content))) (turns_viewpoint name) (λ content. tt))
 
 causes_drawing : (sources : Sources) (failed : Bool) → HasCauses AnswerCaused failed (drawing sources)
 unfolding drawing
 causes_drawing sources failed =
     causes_then AnswerCaused failed (metamodel_under sources.metamodel) _ (causes_metamodel sources.metamodel failed) (λ mm b.
-    causes_then AnswerCaused b (viewpoint_under sources.viewpoint) _ (causes_viewpoint sources.viewpoint b) (λ content d.
-    causes_then AnswerCaused d (model_under mm sources.model) (picture_from sources.model content) (causes_model mm sources.model d) (λ file e. causes_picture sources.model content file e)))
+    causes_then AnswerCaused b (checked_under mm sources.viewpoint) _ (causes_checked mm sources.viewpoint b) (λ spec d.
+    causes_then AnswerCaused d (model_under mm sources.model) (picture_from sources.model spec.0) (causes_model mm sources.model d) (λ file e. causes_picture sources.model spec.0 file e)))
 
 turns_drawing : (sources : Sources) → AsksInTurn (sources.metamodel ∷ sources.viewpoint ∷ sources.model ∷ []) (drawing sources)
 unfolding drawing
 turns_drawing sources =
     turns_then (sources.metamodel ∷ []) (sources.viewpoint ∷ sources.model ∷ []) (metamodel_under sources.metamodel) _ (turns_metamodel sources.metamodel) (λ mm.
-    turns_then (sources.viewpoint ∷ []) (sources.model ∷ []) (viewpoint_under sources.viewpoint) _ (turns_viewpoint sources.viewpoint) (λ content.
-    turns_then (sources.model ∷ []) [] (model_under mm sources.model) (picture_from sources.model content) (turns_model mm sources.model) (λ file. turns_picture sources.model content file)))
+    turns_then (sources.viewpoint ∷ []) (sources.model ∷ []) (checked_under mm sources.viewpoint) _ (turns_checked mm sources.viewpoint) (λ spec.
+    turns_then (sources.model ∷ []) [] (model_under mm sources.model) (picture_from sources.model spec.0) (turns_model mm sources.model) (λ file. turns_picture sources.model spec.0 file)))
 
 pub causes_of_course : (words : List (List ℕ)) → HasCauses AnswerCaused false (course_of words)
 unfolding course_of

@@ -102,7 +102,7 @@ fn named_line(
 
 /// The line for a file that is not of its form: its name, the place and the code.
 #[tactic(auto, unfolding(crate::specs::Answers::bad))]
-fn bad(alloc: Global, name: &[u8], place: &str, code: &str) -> Result<Answer, AllocError>
+pub fn bad(alloc: Global, name: &[u8], place: &str, code: &str) -> Result<Answer, AllocError>
     ensures { IfOk result (λ answer. answer ≡ bad name.now place.now code.now) }
 {
     let mut text = Vec::from_slice(alloc, b"bad ")?;
@@ -117,7 +117,7 @@ fn bad(alloc: Global, name: &[u8], place: &str, code: &str) -> Result<Answer, Al
 }
 
 /// Puts a space and a word last.
-fn push_word(text: &mut Vec<u8>, word: &str) -> Result<(), AllocError>
+pub fn push_word(text: &mut Vec<u8>, word: &str) -> Result<(), AllocError>
     ensures { OnOk result (text.new.items ≡ text.old.items ++ codes " " ++ word.now) }
 {
     text.push(b' ')?;

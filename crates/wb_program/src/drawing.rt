@@ -10,7 +10,8 @@ ghost use Rattle.wb_program.specs.Opening.{drawing, is_thin_model, picture_from,
 
 use crate::answer::{Answer, Ending, ended_by, no_root_element, not_built};
 use crate::candidates::root_element;
-use crate::opening::{ModelFile, take_metamodel, take_model, take_viewpoint};
+use crate::checking::take_checked;
+use crate::opening::{ModelFile, take_metamodel, take_model};
 use crate::picture::served;
 use crate::refusal::Refusal;
 use crate::status::Status;
@@ -33,9 +34,9 @@ pub fn draw<H: Shelf>(alloc: Global, shelf: &mut H, sources: Sources<'_>) -> Res
     ensures { Went result (drawing (shown_sources sources.entry)) (H.told shelf.old) (H.told shelf.new) }
 {
     let metamodel = take_metamodel(alloc, shelf, sources.metamodel)?;
-    let viewpoint = take_viewpoint(alloc, shelf, sources.viewpoint)?;
+    let checked = take_checked(alloc, shelf, sources.viewpoint, &metamodel)?;
     let file = take_model(alloc, shelf, sources.model, metamodel)?;
-    picture_from(alloc, sources.model, viewpoint.content(), &file)
+    picture_from(alloc, sources.model, checked.viewpoint().content(), &file)
 }
 
 /// The picture from the root element of a model, which stands in the file of this name.

@@ -14,6 +14,7 @@ mod forms;
 mod nodes;
 mod opening;
 mod picture;
+mod problem_lines;
 mod refusal;
 mod run;
 mod status;
