@@ -18,7 +18,7 @@ use Rattle.wb_program.specs.declared.viewpoint.Viewpoint.{Viewpoint}
 use Rattle.wb_program.specs.Answers.{not_built, usage, no_root_element, line}
 use Rattle.wb_program.specs.CodeNames.{metamodel_code_name, viewpoint_code_name, model_code_name}
 use Rattle.wb_program.specs.Words.{Sources, Task, check, draw, serve, big, task_in, texts_of, task_of, files_of}
-use Rattle.wb_program.specs.Course.{stops, ◌>>=◌}
+use Rattle.wb_program.specs.Course.{gives, stops, ◌>>=◌}
 use Rattle.wb_program.specs.Causes.{HasCauses}
 use Rattle.wb_program.specs.Asked.{AsksInTurn}
 use Rattle.wb_program.specs.Taking.{taken, used}
@@ -123,6 +123,7 @@ ok_or_lines failed (good parts) = tt
 ok_or_lines failed (bad problem problems) = tt
 
 causes_or_bad : (name : List ℕ) (content : Content) (found : Validated Parts) (failed : Bool) → HasCauses AnyValue failed (or_bad name content found)
+unfolding Rattle.wb_program.specs.Answers.bad
 causes_or_bad name content (good parts) failed = tt
 causes_or_bad name content (bad problem problems) failed = tt
 

@@ -11,6 +11,7 @@ pub mod OnTop
 pub mod OverFiles
 pub mod OverMetamodels
 pub mod Prefixes
+pub mod Problems
 pub mod RootSteps
 pub mod Searches
 pub mod StepLemmas

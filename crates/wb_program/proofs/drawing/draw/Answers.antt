@@ -1,4 +1,4 @@
-use Rattle.std.proofs.Common.{subst, Some}
+use Rattle.std.proofs.Common.{subst, Some, ◌∙◌}
 use Rattle.wb_viewpoint.specs.declared.content.Content.{Content}
 use Rattle.wb_program.specs.Steps.{Reaches}
 use Rattle.wb_program.specs.Opening.{metamodel_under, checked_under, model_under, picture_from, drawing}
@@ -32,4 +32,4 @@ returns g c =
     gone_on c.in_ok-metamodel.metamodel c.picture_from.result (metamodel_under c.args.sources.metamodel.now) _ _ _ _ c.in_ok-metamodel.ensures
     (gone_on c.in_ok-checked.checked c.picture_from.result (checked_under c.in_ok-metamodel.metamodel c.args.sources.viewpoint.now) _ _ _ _ c.in_ok-checked.ensures
     (gone_on c.in_ok-file.file c.picture_from.result (model_under c.in_ok-metamodel.metamodel c.args.sources.model.now) (picture_from c.args.sources.model.now c.in_ok-checked.checked.0) _ _ _ c.in_ok-file.ensures
-    (went_nowhere c.picture_from.result _ _ (subst (λ (content : Content). Reaches c.picture_from.result (Some (picture_from c.args.sources.model.now content c.in_ok-file.file))) c.content.ensures.same c.picture_from.ensures))))
+    (went_nowhere c.picture_from.result _ _ (subst (λ (content : Content). Reaches c.picture_from.result (Some (picture_from c.args.sources.model.now content c.in_ok-file.file))) (c.content.ensures.same ∙ c.viewpoint.ensures.same) c.picture_from.ensures))))
