@@ -30,19 +30,11 @@ use wb_metamodel::{ClassId, Metamodel};
 use wb_viewpoint::{Content, Viewpoint};
 
 /// What a check of a viewpoint finds.
+#[derive(Drop)]
 pub enum Checking {
     Good(CheckedViewpoint),
     /// All problems, in the order of the walk; at least one.
     Bad(List<Problem>),
-}
-
-impl Drop for Checking {
-    fn drop(self) {
-        match self {
-            Checking::Good(_viewpoint) => {}
-            Checking::Bad(_problems) => {}
-        }
-    }
 }
 
 /// The check of a viewpoint over a metamodel.
