@@ -1,8 +1,6 @@
-ghost use Rattle.std.specs.Prelude.{◌≡◌, ◌++◌, ◌∷◌, IfOk, OnOk, codes};
-ghost use Rattle.std.specs.List.{flat_map};
+ghost use Rattle.std.specs.Prelude.{◌≡◌, ◌++◌, IfOk, OnOk, codes};
 ghost use Rattle.wb_program.specs.declared.answer.Answer.{Answer};
 ghost use Rattle.wb_program.specs.declared.answer.Ending.TheVariants.{NoMemory};
-ghost use Rattle.wb_program.specs.declared.status.Status.TheVariants.{ShelfFault, TooLarge};
 ghost use Rattle.wb_program.specs.Answers.{not_built, usage, cannot_read, too_large, bad, refused, no_root_element, line};
 ghost use Rattle.wb_program.specs.Steps.{EndsWith};
 

@@ -1,4 +1,4 @@
-ghost use Rattle.std.specs.Prelude.{◌≡◌, IfOk, IfSome, ◌<◌, length, Some};
+ghost use Rattle.std.specs.Prelude.{◌≡◌, IfOk, Some};
 ghost use Rattle.wb_program.specs.declared.status.Status.TheVariants.{Done};
 ghost use Rattle.wb_program.specs.Answers.{line};
 ghost use Rattle.wb_program.specs.Refusal.{Finds};

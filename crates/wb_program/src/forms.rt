@@ -1,6 +1,5 @@
-ghost use Rattle.std.specs.Prelude.{◌≡◌, ◌≤◌, map};
+ghost use Rattle.std.specs.Prelude.{◌≡◌, ◌≤◌, map, length, nat_le, true};
 ghost use Rattle.std.specs.List.{list_all};
-ghost use Rattle.std.specs.Prelude.{true, length, nat_le};
 ghost use Rattle.std.specs.Str.Parse.{digits_value};
 ghost use Rattle.wb_base.specs.Names.{same_name};
 ghost use Rattle.wb_program.specs.Words as asked;
