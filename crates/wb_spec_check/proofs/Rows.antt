@@ -8,7 +8,7 @@ use Rattle.wb_metamodel.specs.Metamodel.{Metamodel}
 use Rattle.wb_viewpoint.proofs.Trees.{tree_out}
 use Rattle.wb_viewpoint.specs.View.{tree_of, trees_of}
 use Rattle.wb_viewpoint.specs.declared.operations.Operation.{Operation, out-Operation}
-use Rattle.wb_spec_check.specs.Places.{◌/◌, ◌!◌}
+use Rattle.wb_spec_check.specs.Places.{◌▸◌, ◌!◌}
 use Rattle.wb_spec_check.specs.Scopes.{scope_inside}
 use Rattle.wb_spec_check.specs.Tools.{action_at, operation_at, operations_from}
 use Rattle.wb_spec_check.specs.Validated.{Validated, good, bad, ◌<*>◌, problems_of, value_of}
@@ -107,14 +107,14 @@ first_and_others (bad p ps) (bad q qs) = refl
 
 -- ---- an operation, and those inside it
 
-operation_parts : (mm : Metamodel) (scope : List (List ℕ)) (place : Place) (o : Operation) → operation_at mm scope place (tree_of o) ≡ both (alone (action_at mm scope place (out-Operation o).action)) (operations_from mm (scope_inside scope (out-Operation o).action) (place / codes "do") 0 (trees_of (out-Operation o).inside))
+operation_parts : (mm : Metamodel) (scope : List (List ℕ)) (place : Place) (o : Operation) → operation_at mm scope place (tree_of o) ≡ both (alone (action_at mm scope place (out-Operation o).action)) (operations_from mm (scope_inside scope (out-Operation o).action) (place ▸ codes "do") 0 (trees_of (out-Operation o).inside))
 unfolding operation_at
-operation_parts mm scope place o = ap (operation_at mm scope place) (tree_out o) ∙ first_and_others (action_at mm scope place (out-Operation o).action) (operations_from mm (scope_inside scope (out-Operation o).action) (place / codes "do") 0 (trees_of (out-Operation o).inside))
+operation_parts mm scope place o = ap (operation_at mm scope place) (tree_out o) ∙ first_and_others (action_at mm scope place (out-Operation o).action) (operations_from mm (scope_inside scope (out-Operation o).action) (place ▸ codes "do") 0 (trees_of (out-Operation o).inside))
 
-operation_rows : (mm : Metamodel) (scope : List (List ℕ)) (place : Place) {p0 p1 p2 : List Problem} {r0 r1 r2 : Option (List CheckedOperation)} {row : Option CheckedOperation} (o : Operation) (inner : List (List ℕ)) (there : Place) (inside : List Operation) → Tells (action_at mm scope place (out-Operation o).action) p0 row p1 → r1 ≡ and_then r0 row → inner ≡ scope_inside scope (out-Operation o).action → there ≡ place / codes "do" → inside ≡ (out-Operation o).inside → TellsRows (operations_from mm inner there 0 (trees_of inside)) p1 r1 r2 p2 → TellsRows (operation_at mm scope place (tree_of o)) p0 r0 r2 p2
+operation_rows : (mm : Metamodel) (scope : List (List ℕ)) (place : Place) {p0 p1 p2 : List Problem} {r0 r1 r2 : Option (List CheckedOperation)} {row : Option CheckedOperation} (o : Operation) (inner : List (List ℕ)) (there : Place) (inside : List Operation) → Tells (action_at mm scope place (out-Operation o).action) p0 row p1 → r1 ≡ and_then r0 row → inner ≡ scope_inside scope (out-Operation o).action → there ≡ place ▸ codes "do" → inside ≡ (out-Operation o).inside → TellsRows (operations_from mm inner there 0 (trees_of inside)) p1 r1 r2 p2 → TellsRows (operation_at mm scope place (tree_of o)) p0 r0 r2 p2
 operation_rows mm scope place o inner there inside first is around at all others = rw (operation_parts mm scope place o) (rows_both (rows_one first is) (rw (around, at, all) at others))
 
-pub operation_told : (mm : Metamodel) (scope : List (List ℕ)) (place : Place) {p0 p1 : List Problem} (p2 : List Problem) (r0 : Option (List CheckedOperation)) {r1 : Option (List CheckedOperation)} (r2 : Option (List CheckedOperation)) {row : Option CheckedOperation} (o : Operation) (inner : List (List ℕ)) (there : Place) (inside : List Operation) (result : Result ⊤ AllocError) → Tells (action_at mm scope place (out-Operation o).action) p0 row p1 → r1 ≡ and_then r0 row → inner ≡ scope_inside scope (out-Operation o).action → there ≡ place / codes "do" → inside ≡ (out-Operation o).inside → OnOk result (TellsRows (operations_from mm inner there 0 (trees_of inside)) p1 r1 r2 p2) → OnOk result (TellsRows (operation_at mm scope place (tree_of o)) p0 r0 r2 p2)
+pub operation_told : (mm : Metamodel) (scope : List (List ℕ)) (place : Place) {p0 p1 : List Problem} (p2 : List Problem) (r0 : Option (List CheckedOperation)) {r1 : Option (List CheckedOperation)} (r2 : Option (List CheckedOperation)) {row : Option CheckedOperation} (o : Operation) (inner : List (List ℕ)) (there : Place) (inside : List Operation) (result : Result ⊤ AllocError) → Tells (action_at mm scope place (out-Operation o).action) p0 row p1 → r1 ≡ and_then r0 row → inner ≡ scope_inside scope (out-Operation o).action → there ≡ place ▸ codes "do" → inside ≡ (out-Operation o).inside → OnOk result (TellsRows (operations_from mm inner there 0 (trees_of inside)) p1 r1 r2 p2) → OnOk result (TellsRows (operation_at mm scope place (tree_of o)) p0 r0 r2 p2)
 operation_told mm scope place p2 r0 r2 o inner there inside (Ok u) first is around at all others = operation_rows mm scope place o inner there inside first is around at all others
 operation_told mm scope place p2 r0 r2 o inner there inside (Err e) first is around at all others = tt
 

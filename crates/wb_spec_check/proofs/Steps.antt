@@ -1,6 +1,6 @@
 -- The place of each path.
 use Rattle.std.proofs.Common.{rules, ◌≡◌, ℕ, List, ◌++◌, Bor, Result, Ok, Err, ap, ◌∙◌, append_assoc}
-use Rattle.wb_spec_check.specs.Places.{place_of, ◌/◌, ◌!◌}
+use Rattle.wb_spec_check.specs.Places.{place_of, ◌▸◌, ◌!◌}
 use Rattle.wb_spec_check.specs.declared.path.Path.{Path, Root, Member, Item, the_lemmas}
 use Rattle.std.specs.Prelude.{codes, OnOk}
 
@@ -8,7 +8,7 @@ pub place_root : place_of Root ≡ codes "#"
 unfolding place_of
 place_root = search (rules, the_lemmas)
 
-pub place_member : (outer : Bor Path) (name : Bor (List ℕ)) → place_of (Member outer name) ≡ place_of outer.now / name.now
+pub place_member : (outer : Bor Path) (name : Bor (List ℕ)) → place_of (Member outer name) ≡ place_of outer.now ▸ name.now
 unfolding place_of
 place_member outer name = search (rules, the_lemmas)
 

@@ -18,7 +18,7 @@ use Rattle.wb_viewpoint.specs.declared.styles.Looks.{Looks}
 use Rattle.wb_viewpoint.specs.declared.styles.Style.{Style}
 use Rattle.wb_spec_check.specs.ChildLists.{ChildList, children_list, borders_list, lists_before, child_found}
 use Rattle.wb_spec_check.specs.Findings.{class_found, layer_found, end_found, own_name}
-use Rattle.wb_spec_check.specs.Places.{◌/◌, ◌!◌}
+use Rattle.wb_spec_check.specs.Places.{◌▸◌, ◌!◌}
 use Rattle.wb_spec_check.specs.Scopes.{own_scope, container_scope}
 use Rattle.wb_spec_check.specs.Validated.{Validated, good, ◌<*>◌, at, optional, each}
 use Rattle.wb_spec_check.specs.declared.checked_looks.CheckedStyle.{CheckedStyle}
@@ -48,19 +48,19 @@ children_at content earlier place list = each (λ i name. at (place ! i) (child_
 
 -- a style has at most one expression: its label
 unfoldable pub label_at : Metamodel → Place → Style → Validated (Option (Origin × List (List ℕ)))
-label_at mm place style = optional (expression_at mm own_scope (place / codes "label")) style.label
+label_at mm place style = optional (expression_at mm own_scope (place ▸ codes "label")) style.label
 
 unfoldable pub style_at : Metamodel → Place → ConditionalStyle → Validated CheckedStyle
 style_at mm place style =
     good (λ when label. record { when = when; label = label })
-    <*> expression_at mm own_scope (place / codes "when") style.when
-    <*> label_at mm (place / codes "style") style.style
+    <*> expression_at mm own_scope (place ▸ codes "when") style.when
+    <*> label_at mm (place ▸ codes "style") style.style
 
 unfoldable pub looks_at : Metamodel → Place → Looks → Validated CheckedLooks
 looks_at mm place looks =
     good (λ label styles. record { label = label; styles = styles })
-    <*> label_at mm (place / codes "style") looks.style
-    <*> each (λ i style. style_at mm (place / codes "styles" ! i) style) looks.styles
+    <*> label_at mm (place ▸ codes "style") looks.style
+    <*> each (λ i style. style_at mm (place ▸ codes "styles" ! i) style) looks.styles
 
 -- ---- members that several kinds of mappings have
 
@@ -71,8 +71,8 @@ objects_with class candidates = record { domain = class; candidates = unwrap_or 
 unfoldable pub objects_at : Metamodel → Place → Objects → Validated CheckedObjects
 objects_at mm place objects =
     good objects_with
-    <*> at (place / codes "domain") (class_found mm objects.domain)
-    <*> optional (expression_at mm own_scope (place / codes "candidates")) objects.candidates
+    <*> at (place ▸ codes "domain") (class_found mm objects.domain)
+    <*> optional (expression_at mm own_scope (place ▸ codes "candidates")) objects.candidates
 
 -- a mapping that names no layer is on the first
 abbrev pub shown_with : Option (Origin × List (List ℕ)) → Option ℕ → Shown
@@ -81,8 +81,8 @@ shown_with precondition layer = record { precondition = precondition; layer = un
 unfoldable pub shown_at : Metamodel → Content → List (List ℕ) → Place → Mapping → Validated Shown
 shown_at mm content scope place mapping =
     good shown_with
-    <*> optional (expression_at mm scope (place / codes "precondition")) mapping.precondition
-    <*> optional (λ name. at (place / codes "layer") (layer_found content name)) mapping.layer
+    <*> optional (expression_at mm scope (place ▸ codes "precondition")) mapping.precondition
+    <*> optional (λ name. at (place ▸ codes "layer") (layer_found content name)) mapping.layer
 
 abbrev pub nested_with : List ℕ → List ℕ → Nested
 nested_with children borders = record { children = children; borders = borders }
@@ -91,8 +91,8 @@ nested_with children borders = record { children = children; borders = borders }
 unfoldable pub nested_at : Content → ℕ → Place → NodeMapping → Validated Nested
 nested_at content n place node =
     good nested_with
-    <*> children_at content (lists_before content n) (place / codes "children") (children_list n node)
-    <*> children_at content (lists_before content n ++ (children_list n node ∷ [])) (place / codes "borders") (borders_list node)
+    <*> children_at content (lists_before content n) (place ▸ codes "children") (children_list n node)
+    <*> children_at content (lists_before content n ++ (children_list n node ∷ [])) (place ▸ codes "borders") (borders_list node)
 
 abbrev pub ends_with : List ℕ → List ℕ → Ends
 ends_with sources targets = record { sources = sources; targets = targets }
@@ -100,8 +100,8 @@ ends_with sources targets = record { sources = sources; targets = targets }
 unfoldable pub both_ends_at : Content → Place → EdgeMapping → Validated Ends
 both_ends_at content place edge =
     good ends_with
-    <*> ends_at content (place / codes "sources") edge.ends.sources
-    <*> ends_at content (place / codes "targets") edge.ends.targets
+    <*> ends_at content (place ▸ codes "sources") edge.ends.sources
+    <*> ends_at content (place ▸ codes "targets") edge.ends.targets
 
 -- ---- mappings, by their forms
 
@@ -140,8 +140,8 @@ edge_at mm content place mapping edge =
     <*> optional (λ (it : ObjectEdge). objects_at mm place it.objects) edge.object_edge
     <*> shown_at mm content own_scope place mapping
     <*> both_ends_at content place edge
-    <*> optional (λ (it : ObjectEdge). expression_at mm own_scope (place / codes "sourceFinder") it.source_finder) edge.object_edge
-    <*> expression_at mm own_scope (place / codes "targetFinder") edge.target_finder
+    <*> optional (λ (it : ObjectEdge). expression_at mm own_scope (place ▸ codes "sourceFinder") it.source_finder) edge.object_edge
+    <*> expression_at mm own_scope (place ▸ codes "targetFinder") edge.target_finder
     <*> looks_at mm place mapping.looks
 
 abbrev pub form_at : Metamodel → Content → ℕ → Place → Mapping → MappingForm → Validated CheckedMapping
@@ -152,5 +152,5 @@ form_at mm content n place mapping (EdgeForm edge) = edge_at mm content place ma
 unfoldable pub mapping_at : Metamodel → Content → ℕ → Place → Mapping → Validated CheckedMapping
 mapping_at mm content n place mapping =
     good (λ _ checked. checked)
-    <*> at (place / codes "name") (own_name (map (λ (it : Mapping). it.name) (take n content.mappings)) mapping.name)
+    <*> at (place ▸ codes "name") (own_name (map (λ (it : Mapping). it.name) (take n content.mappings)) mapping.name)
     <*> form_at mm content n place mapping mapping.form

@@ -5,10 +5,10 @@ use Rattle.wb_spec_check.specs.declared.path.Path.{Path, fold-Path}
 use Rattle.wb_spec_check.specs.declared.path.Path.TheOpen.{Path-F}
 
 -- the member of that name, of what stands at a place
-abbrev pub ◌/◌ : Place → List ℕ → Place
-place / name = place ++ pointer_segment name
+abbrev pub ◌▸◌ : Place → List ℕ → Place
+place ▸ name = place ++ pointer_segment name
 
-infixl 30 ◌/◌
+infixl 30 ◌▸◌
 -- the item of that number
 abbrev pub ◌!◌ : Place → ℕ → Place
 place ! n = place ++ index_segment n
@@ -16,12 +16,12 @@ place ! n = place ++ index_segment n
 infixl 30 ◌!◌
 -- the diagram of a viewpoint
 abbrev pub diagram : Place
-diagram = codes "#" / codes "diagram"
+diagram = codes "#" ▸ codes "diagram"
 
 -- the place to which a path leads
 abbrev pub path_step : Path-F Place → Place
 path_step Path-F.Root = codes "#"
-path_step (Path-F.Member outer name) = outer.now / name.now
+path_step (Path-F.Member outer name) = outer.now ▸ name.now
 path_step (Path-F.Item outer n) = outer.now ! n
 
 unfoldable pub place_of : Path → Place

@@ -10,7 +10,7 @@ use Rattle.wb_viewpoint.specs.declared.operations.Action.TheVariants as a
 use Rattle.wb_viewpoint.specs.declared.tools.Tool.{Tool}
 use Rattle.wb_spec_check.specs.Findings.{feature_found, made_class, own_name, reference_found}
 use Rattle.wb_spec_check.specs.Mappings.{expression_at}
-use Rattle.wb_spec_check.specs.Places.{◌/◌, ◌!◌}
+use Rattle.wb_spec_check.specs.Places.{◌▸◌, ◌!◌}
 use Rattle.wb_spec_check.specs.Scopes.{scope_inside, tool_scope}
 use Rattle.wb_spec_check.specs.Validated.{Validated, good, ◌<*>◌, at, optional}
 use Rattle.wb_spec_check.specs.declared.checked_tools.CheckedOperation.{CheckedOperation}
@@ -28,26 +28,26 @@ maybe_expression checked = record { class = None; expression = checked }
 
 -- what an operation does, in this scope
 unfoldable pub action_at : Metamodel → List (List ℕ) → Place → Action → Validated CheckedOperation
-action_at mm scope place (a.ChangeContext browse) = good with_expression <*> expression_at mm scope (place / codes "browse") browse
+action_at mm scope place (a.ChangeContext browse) = good with_expression <*> expression_at mm scope (place ▸ codes "browse") browse
 action_at mm scope place (a.CreateInstance reference class variable) =
     good (λ _ made. with_class made)
-    <*> at (place / codes "reference") (reference_found mm reference)
-    <*> at (place / codes "class") (made_class mm class)
+    <*> at (place ▸ codes "reference") (reference_found mm reference)
+    <*> at (place ▸ codes "class") (made_class mm class)
 action_at mm scope place (a.Set feature value) =
     good (λ _ checked. with_expression checked)
-    <*> at (place / codes "feature") (feature_found mm feature)
-    <*> expression_at mm scope (place / codes "value") value
+    <*> at (place ▸ codes "feature") (feature_found mm feature)
+    <*> expression_at mm scope (place ▸ codes "value") value
 action_at mm scope place (a.Unset feature value) =
     good (λ _ checked. maybe_expression checked)
-    <*> at (place / codes "feature") (feature_found mm feature)
-    <*> optional (expression_at mm scope (place / codes "value")) value
+    <*> at (place ▸ codes "feature") (feature_found mm feature)
+    <*> optional (expression_at mm scope (place ▸ codes "value")) value
 action_at mm scope place (a.Move to reference) =
     good (λ checked _. with_expression checked)
-    <*> expression_at mm scope (place / codes "to") to
-    <*> at (place / codes "reference") (reference_found mm reference)
+    <*> expression_at mm scope (place ▸ codes "to") to
+    <*> at (place ▸ codes "reference") (reference_found mm reference)
 action_at mm scope place a.Remove = good (maybe_expression None)
-action_at mm scope place (a.For items iterator) = good with_expression <*> expression_at mm scope (place / codes "items") items
-action_at mm scope place (a.If condition) = good with_expression <*> expression_at mm scope (place / codes "condition") condition
+action_at mm scope place (a.For items iterator) = good with_expression <*> expression_at mm scope (place ▸ codes "items") items
+action_at mm scope place (a.If condition) = good with_expression <*> expression_at mm scope (place ▸ codes "condition") condition
 
 -- operations, each before those inside it
 unfoldable mutual
@@ -55,7 +55,7 @@ unfoldable mutual
   operation_at mm scope place (operation number action inside) =
       good (λ first others. first ∷ others)
       <*> action_at mm scope place action
-      <*> operations_from mm (scope_inside scope action) (place / codes "do") 0 inside
+      <*> operations_from mm (scope_inside scope action) (place ▸ codes "do") 0 inside
 
   -- those of a list from a number on
   pub operations_from : Metamodel → List (List ℕ) → Place → ℕ → Trees → Validated (List CheckedOperation)
@@ -69,6 +69,6 @@ unfoldable mutual
 unfoldable pub tool_at : Metamodel → Content → ℕ → Place → Tool → Validated CheckedTool
 tool_at mm content n place tool =
     good (λ _ precondition operations. record { precondition = precondition; operations = operations })
-    <*> at (place / codes "name") (own_name (map (λ (it : Tool). it.name) (take n content.tools)) tool.name)
-    <*> optional (expression_at mm (tool_scope tool.kind) (place / codes "precondition")) tool.precondition
-    <*> operations_from mm (tool_scope tool.kind) (place / codes "do") 0 tool.operations
+    <*> at (place ▸ codes "name") (own_name (map (λ (it : Tool). it.name) (take n content.tools)) tool.name)
+    <*> optional (expression_at mm (tool_scope tool.kind) (place ▸ codes "precondition")) tool.precondition
+    <*> operations_from mm (tool_scope tool.kind) (place ▸ codes "do") 0 tool.operations

@@ -1,6 +1,6 @@
 ghost use Rattle.std.specs.Prelude.{◌≡◌, Some, map, codes};
 ghost use Rattle.wb_spec_check.specs.Checked.{layers_at};
-ghost use Rattle.wb_spec_check.specs.Places.{place_of, ◌/◌, diagram};
+ghost use Rattle.wb_spec_check.specs.Places.{place_of, ◌▸◌, diagram};
 ghost use Rattle.wb_spec_check.specs.invariants.Reports.{Reports, ◌<&>◌, both_good};
 
 use crate::names::Names;
@@ -27,7 +27,7 @@ pub(crate) fn layers_at(
     names: &Names<'_>,
     path: &Path<'_>,
 ) -> Result<Option<()>, AllocError>
-    requires { place_of path.now ≡ diagram / codes "layers" }
+    requires { place_of path.now ≡ diagram ▸ codes "layers" }
     ensures { Reports (layers_at names.now.1) problems.old result problems.new }
 {
     let mut all = Some(());

@@ -1,6 +1,6 @@
 ghost use Rattle.std.specs.Prelude.{◌≡◌, ℕ, Some, codes};
 ghost use Rattle.wb_spec_check.specs.Mappings.{label_at, style_at, looks_at};
-ghost use Rattle.wb_spec_check.specs.Places.{place_of, ◌/◌, ◌!◌};
+ghost use Rattle.wb_spec_check.specs.Places.{place_of, ◌▸◌, ◌!◌};
 ghost use Rattle.wb_spec_check.specs.Validated.{each};
 ghost use Rattle.wb_spec_check.specs.declared.checked_looks.CheckedStyle.{CheckedStyle};
 ghost use Rattle.wb_spec_check.specs.declared.checked_looks.CheckedLooks.{CheckedLooks};

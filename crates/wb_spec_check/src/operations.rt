@@ -1,7 +1,7 @@
 ghost use Rattle.std.specs.Prelude.{◌≡◌, ◌∷◌, [], option_map, option_and_then, codes, OnOk};
 ghost use Rattle.wb_spec_check.specs.Findings.{feature_found, made_class, reference_found};
 ghost use Rattle.wb_spec_check.specs.Mappings.{expression_at};
-ghost use Rattle.wb_spec_check.specs.Places.{◌/◌, place_of};
+ghost use Rattle.wb_spec_check.specs.Places.{◌▸◌, place_of};
 ghost use Rattle.wb_spec_check.specs.Tools.{action_at, operation_at, operations_from, with_class, with_expression, maybe_expression};
 ghost use Rattle.wb_spec_check.specs.Validated.{good, ◌<*>◌, at, optional};
 ghost use Rattle.wb_spec_check.specs.invariants.Reports.{Reports};
@@ -139,7 +139,7 @@ fn create_at(
     reference: &Name,
     class: &Name,
 ) -> Result<Option<CheckedOperation>, AllocError>
-    ensures { Reports (good (λ _ made. with_class made) <*> at (place_of path.now / codes "reference") (reference_found names.now.0 reference.now) <*> at (place_of path.now / codes "class") (made_class names.now.0 class.now)) problems.old result problems.new }
+    ensures { Reports (good (λ _ made. with_class made) <*> at (place_of path.now ▸ codes "reference") (reference_found names.now.0 reference.now) <*> at (place_of path.now ▸ codes "class") (made_class names.now.0 class.now)) problems.old result problems.new }
 {
     let known = reference_at(alloc, problems, names, path, reference)?;
     let made = class_at(alloc, problems, names, path, class)?;
@@ -157,7 +157,7 @@ fn set_at(
     feature: &Name,
     value: &ExpressionText,
 ) -> Result<Option<CheckedOperation>, AllocError>
-    ensures { Reports (good (λ _ checked. with_expression checked) <*> at (place_of path.now / codes "feature") (feature_found names.now.0 feature.now) <*> expression_at names.now.0 scope.now (place_of path.now / codes "value") value.now) problems.old result problems.new }
+    ensures { Reports (good (λ _ checked. with_expression checked) <*> at (place_of path.now ▸ codes "feature") (feature_found names.now.0 feature.now) <*> expression_at names.now.0 scope.now (place_of path.now ▸ codes "value") value.now) problems.old result problems.new }
 {
     let known = feature_at(alloc, problems, names, path, feature)?;
     let place = Path::Member(path, "value");
@@ -176,7 +176,7 @@ fn unset_at(
     feature: &Name,
     value: &Option<ExpressionText>,
 ) -> Result<Option<CheckedOperation>, AllocError>
-    ensures { Reports (good (λ _ checked. maybe_expression checked) <*> at (place_of path.now / codes "feature") (feature_found names.now.0 feature.now) <*> optional (expression_at names.now.0 scope.now (place_of path.now / codes "value")) value.now) problems.old result problems.new }
+    ensures { Reports (good (λ _ checked. maybe_expression checked) <*> at (place_of path.now ▸ codes "feature") (feature_found names.now.0 feature.now) <*> optional (expression_at names.now.0 scope.now (place_of path.now ▸ codes "value")) value.now) problems.old result problems.new }
 {
     let known = feature_at(alloc, problems, names, path, feature)?;
     let place = Path::Member(path, "value");
@@ -195,7 +195,7 @@ fn move_at(
     to: &ExpressionText,
     reference: &Name,
 ) -> Result<Option<CheckedOperation>, AllocError>
-    ensures { Reports (good (λ checked _. with_expression checked) <*> expression_at names.now.0 scope.now (place_of path.now / codes "to") to.now <*> at (place_of path.now / codes "reference") (reference_found names.now.0 reference.now)) problems.old result problems.new }
+    ensures { Reports (good (λ checked _. with_expression checked) <*> expression_at names.now.0 scope.now (place_of path.now ▸ codes "to") to.now <*> at (place_of path.now ▸ codes "reference") (reference_found names.now.0 reference.now)) problems.old result problems.new }
 {
     let place = Path::Member(path, "to");
     let checked = expression_at(alloc, problems, names.metamodel(), scope, &place, to)?;
@@ -211,7 +211,7 @@ fn feature_at(
     path: &Path<'_>,
     feature: &Name,
 ) -> Result<Option<()>, AllocError>
-    ensures { Reports (at (place_of path.now / codes "feature") (feature_found names.now.0 feature.now)) problems.old result problems.new }
+    ensures { Reports (at (place_of path.now ▸ codes "feature") (feature_found names.now.0 feature.now)) problems.old result problems.new }
 {
     let place = Path::Member(path, "feature");
     let name = feature.as_str();
@@ -226,7 +226,7 @@ fn reference_at(
     path: &Path<'_>,
     reference: &Name,
 ) -> Result<Option<()>, AllocError>
-    ensures { Reports (at (place_of path.now / codes "reference") (reference_found names.now.0 reference.now)) problems.old result problems.new }
+    ensures { Reports (at (place_of path.now ▸ codes "reference") (reference_found names.now.0 reference.now)) problems.old result problems.new }
 {
     let place = Path::Member(path, "reference");
     let name = reference.as_str();
@@ -242,7 +242,7 @@ fn class_at(
     path: &Path<'_>,
     class: &Name,
 ) -> Result<Option<ClassId>, AllocError>
-    ensures { Reports (at (place_of path.now / codes "class") (made_class names.now.0 class.now)) problems.old result problems.new }
+    ensures { Reports (at (place_of path.now ▸ codes "class") (made_class names.now.0 class.now)) problems.old result problems.new }
 {
     let place = Path::Member(path, "class");
     let name = class.as_str();

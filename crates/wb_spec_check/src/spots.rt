@@ -1,7 +1,7 @@
 ghost use Rattle.std.specs.Prelude.{◌≡◌, ℕ, List, IfOk, codes, take};
 ghost use Rattle.wb_spec_check.specs.Findings.{own_name};
 ghost use Rattle.wb_spec_check.specs.Mappings.{expression_at};
-ghost use Rattle.wb_spec_check.specs.Places.{place_of, ◌/◌};
+ghost use Rattle.wb_spec_check.specs.Places.{place_of, ◌▸◌};
 ghost use Rattle.wb_spec_check.specs.Validated.{at, optional};
 ghost use Rattle.wb_spec_check.specs.invariants.Findings.{Finds};
 ghost use Rattle.wb_spec_check.specs.invariants.Known.{Numbers, place_in};
@@ -67,7 +67,7 @@ pub(crate) fn own_name_at(
     number: usize,
     name: &str,
 ) -> Result<Option<()>, AllocError>
-    ensures { (all earlier : List (List ℕ)) → Numbers first.now (place_in all) → earlier ≡ take number all → Reports (at (place_of path.now / codes "name") (own_name earlier name.now)) problems.old result problems.new }
+    ensures { (all earlier : List (List ℕ)) → Numbers first.now (place_in all) → earlier ≡ take number all → Reports (at (place_of path.now ▸ codes "name") (own_name earlier name.now)) problems.old result problems.new }
 {
     name_at(
         alloc,
