@@ -1,0 +1,9 @@
+pub mod SeenLaws
+pub mod SeenLoops
+pub mod LimitLaws
+pub mod FirstPlaces
+pub mod SameKeyLaws
+pub mod UnitScopes
+pub mod Yields
+pub mod CheckedExpressions
+pub mod CheckedParts

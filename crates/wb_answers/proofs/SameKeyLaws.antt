@@ -1,0 +1,47 @@
+-- Equal keys are the same, and how marks grow by a key.
+use Rattle.std.proofs.Common.{◌≡◌, ℕ, ◌<◌, ◌+◌, Bool, true, false, cond, ◌||◌, List, [], ◌∷◌, ◌++◌, length, take, get_or, refl, sym, ap, ◌∙◌, rules}
+use Rattle.std.specs.List.{list_any}
+use Rattle.std.specs.Cmp.Lexicographic.{lists_equiv}
+use Rattle.std.specs.Cmp.{IsEquivalence, nat_eq_equiv, and_equiv, on_equiv}
+use Rattle.std.proofs.lemmas.List.Folds.{list_any-append}
+use Rattle.std.proofs.lemmas.List.{take_more}
+use Rattle.wb_diagram.specs.declared.keys.Pair.{Pair}
+use Rattle.wb_diagram.specs.declared.keys.Key.{Key}
+use Rattle.wb_diagram.specs.contracts.keys.KeyPartialEq.TheImpl.{eq-value}
+use Rattle.wb_answers.specs.SameKeys.{same_pair, same_key}
+
+pub same_keys : (x y : Key) → eq-value.it x y ≡ same_key x y
+same_keys x y = search rules
+
+pub pair_equiv : IsEquivalence same_pair
+pair_equiv = and_equiv (on_equiv (λ (p : Pair). p.mapping) nat_eq_equiv) (on_equiv (λ (p : Pair). p.object) nat_eq_equiv)
+
+pub key_symm : (x y : Key) → same_key x y ≡ same_key y x
+key_symm x y = (lists_equiv pair_equiv).symm x.pairs y.pairs
+
+pub any_same : (q : Key) (ks : List Key) → list_any (eq-value.it q) ks ≡ list_any (same_key q) ks
+any_same q ks = ap (λ (f : Key → Bool). list_any f ks) (λ i y. same_keys q y i)
+
+by_or : (b c : Bool) → cond b true c ≡ (c || b)
+by_or true true = refl
+by_or true false = refl
+by_or false true = refl
+by_or false false = refl
+
+-- a set of keys by one key more
+pub one_more_mark : (q key d : Key) (old new shown : List Key) (i : ℕ) → i < length shown → key ≡ get_or shown i d
+    → list_any (eq-value.it q) new ≡ cond (eq-value.it key q) true (list_any (eq-value.it q) old)
+    → list_any (same_key q) old ≡ list_any (same_key q) (take i shown)
+    → list_any (same_key q) new ≡ list_any (same_key q) (take (i + 1) shown)
+one_more_mark q key d old new shown i within at updated so_far =
+    sym (any_same q new) ∙ updated
+    ∙ ap (λ b. cond b true (list_any (eq-value.it q) old)) (same_keys key q ∙ key_symm key q)
+    ∙ by_or (same_key q key) (list_any (eq-value.it q) old)
+    ∙ ap (λ b. b || same_key q key) (any_same q old ∙ so_far)
+    ∙ ap (λ b. list_any (same_key q) (take i shown) || b) (one (same_key q key))
+    ∙ sym (list_any-append (same_key q) (take i shown) (key ∷ []))
+    ∙ ap (list_any (same_key q)) (ap (λ k. take i shown ++ k ∷ []) at ∙ sym (take_more shown i d within))
+  where
+    one : (b : Bool) → b ≡ (b || false)
+    one true = refl
+    one false = refl

@@ -1,0 +1,6 @@
+pub mod Environments
+pub mod Limits
+pub mod Meanings
+pub mod SameKeys
+pub mod Seen
+pub mod UnitExpressions

@@ -1,0 +1,9 @@
+use Rattle.std.proofs.Common.{[], append-nil}
+use Rattle.wb_answers.proofs.SeenLaws.{short}
+use Rattle.wb_nodes.proofs.children.take_up.Goals as goal
+
+pub returns-in_err-copy-clause-asks : goal.returns-in_err-copy-clause-asks
+returns-in_err-copy-clause-asks g c = short _ _ _ [] _ _ c.from_residual-in_err-copy.ensures c.in_ok-passed.ensures.asks (append-nil _)
+
+pub returns-in_err-push-clause-asks : goal.returns-in_err-push-clause-asks
+returns-in_err-push-clause-asks g c = short _ _ _ [] _ _ c.from_residual-in_err-push.ensures c.in_ok-passed.ensures.asks (append-nil _)
