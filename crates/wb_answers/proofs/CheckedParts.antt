@@ -28,7 +28,7 @@ use Rattle.wb_viewpoint.specs.declared.styles.Style.{Style}
 use Rattle.wb_spec_check.specs.Checked.{Specification, IsCheckedBy, checked, filter_at}
 use Rattle.wb_spec_check.specs.Findings.{class_found, or_problem}
 use Rattle.wb_spec_check.specs.Mappings.{edge_at, edge_with, expression_at, form_at, label_at, looks_at, mapping_at, node_at, node_with, objects_at, objects_with, shown_at, source_with, style_at}
-use Rattle.wb_spec_check.specs.Places.{◌/◌, ◌!◌, diagram}
+use Rattle.wb_spec_check.specs.Places.{◌▸◌, ◌!◌, diagram}
 use Rattle.wb_spec_check.specs.Scopes.{own_scope, container_scope}
 use Rattle.wb_spec_check.specs.Units.{Expression, candidates_of, candidates_of_form, expression_of, label_of, label_of_looks, mapping_of, mapping_of_key, precondition_of, source_of_form, style_of, target_of_form, when_of}
 use Rattle.wb_spec_check.specs.declared.checked_filters.CheckedFilter.{CheckedFilter}
@@ -107,18 +107,18 @@ own_fits mm place text = expression_fits mm own_scope place text own
 
 label_fits : (mm : Metamodel) (place : Place) (style : Style) → Yields (OfSome (IsUnitExpression mm)) (label_at mm place style)
 unfolding label_at
-label_fits mm place style = yields_optional (expression_at mm own_scope (place / codes "label")) style.label (own_fits mm (place / codes "label"))
+label_fits mm place style = yields_optional (expression_at mm own_scope (place ▸ codes "label")) style.label (own_fits mm (place ▸ codes "label"))
 
 style_fits : (mm : Metamodel) (place : Place) (style : ConditionalStyle) → Yields (FitStyle mm) (style_at mm place style)
 unfolding style_at
 style_fits mm place style =
-    yields_both (yields_both (yields_good _ (λ when known label labelled. (known, labelled))) (own_fits mm (place / codes "when") style.when)) (label_fits mm (place / codes "style") style.style)
+    yields_both (yields_both (yields_good _ (λ when known label labelled. (known, labelled))) (own_fits mm (place ▸ codes "when") style.when)) (label_fits mm (place ▸ codes "style") style.style)
 
 looks_fit : (mm : Metamodel) (place : Place) (looks : Looks) → Yields (FitLooks mm) (looks_at mm place looks)
 unfolding looks_at
 looks_fit mm place looks =
-    yields_both (yields_both (yields_good _ (λ label known styles are. (known, are))) (label_fits mm (place / codes "style") looks.style))
-    (yields_each (λ i style. style_at mm (place / codes "styles" ! i) style) 0 looks.styles (λ i style. style_fits mm (place / codes "styles" ! i) style))
+    yields_both (yields_both (yields_good _ (λ label known styles are. (known, are))) (label_fits mm (place ▸ codes "style") looks.style))
+    (yields_each (λ i style. style_at mm (place ▸ codes "styles" ! i) style) 0 looks.styles (λ i style. style_fits mm (place ▸ codes "styles" ! i) style))
 
 -- ---- mappings
 
@@ -130,15 +130,15 @@ objects_fit : (mm : Metamodel) (place : Place) (objects : Objects) → Yields (F
 unfolding objects_at
 objects_fit mm place objects =
     yields_both
-    (yields_both (yields_good objects_with (λ class known candidates are. candidates_fit mm class candidates known are)) (yields_at (place / codes "domain") (class_found mm objects.domain) (found_class mm objects.domain)))
-    (yields_optional (expression_at mm own_scope (place / codes "candidates")) objects.candidates (own_fits mm (place / codes "candidates")))
+    (yields_both (yields_good objects_with (λ class known candidates are. candidates_fit mm class candidates known are)) (yields_at (place ▸ codes "domain") (class_found mm objects.domain) (found_class mm objects.domain)))
+    (yields_optional (expression_at mm own_scope (place ▸ codes "candidates")) objects.candidates (own_fits mm (place ▸ codes "candidates")))
 
 shown_fits : (mm : Metamodel) (content : Content) (scope : List (List ℕ)) (place : Place) (mapping : Mapping) → IsUnitScope scope → Yields (λ (shown : Shown). OfSome (IsUnitExpression mm) shown.precondition) (shown_at mm content scope place mapping)
 unfolding shown_at
 shown_fits mm content scope place mapping scoped =
     yields_both
     (yields_both (yields_good _ (λ precondition known layer _. known))
-    (yields_optional (expression_at mm scope (place / codes "precondition")) mapping.precondition (λ text. expression_fits mm scope (place / codes "precondition") text scoped)))
+    (yields_optional (expression_at mm scope (place ▸ codes "precondition")) mapping.precondition (λ text. expression_fits mm scope (place ▸ codes "precondition") text scoped)))
     any
 
 node_fits : (mm : Metamodel) (content : Content) (n : ℕ) (place : Place) (mapping : Mapping) (node : NodeMapping) → Yields (FitMapping mm) (node_at mm content n place mapping node)
@@ -164,8 +164,8 @@ edge_fits mm content place mapping edge =
     (yields_optional (λ (it : ObjectEdge). objects_at mm place it.objects) edge.object_edge (λ it. objects_fit mm place it.objects)))
     (shown_fits mm content own_scope place mapping own))
     any)
-    (yields_optional (λ (it : ObjectEdge). expression_at mm own_scope (place / codes "sourceFinder") it.source_finder) edge.object_edge (λ it. own_fits mm (place / codes "sourceFinder") it.source_finder)))
-    (own_fits mm (place / codes "targetFinder") edge.target_finder))
+    (yields_optional (λ (it : ObjectEdge). expression_at mm own_scope (place ▸ codes "sourceFinder") it.source_finder) edge.object_edge (λ it. own_fits mm (place ▸ codes "sourceFinder") it.source_finder)))
+    (own_fits mm (place ▸ codes "targetFinder") edge.target_finder))
     (looks_fit mm place mapping.looks)
 
 form_fits : (mm : Metamodel) (content : Content) (n : ℕ) (place : Place) (mapping : Mapping) (form : MappingForm) → Yields (FitMapping mm) (form_at mm content n place mapping form)
@@ -182,7 +182,7 @@ mapping_fits mm content n place mapping =
 filter_fits : (mm : Metamodel) (content : Content) (n : ℕ) (place : Place) (filter : Filter) → Yields (FitFilter mm) (filter_at mm content n place filter)
 unfolding filter_at
 filter_fits mm content n place filter =
-    yields_both (yields_both (yields_both (yields_good _ (λ _ _ mappings _ hides known. known)) any) any) (own_fits mm (place / codes "hides") filter.hides)
+    yields_both (yields_both (yields_both (yields_good _ (λ _ _ mappings _ hides known. known)) any) any) (own_fits mm (place ▸ codes "hides") filter.hides)
 
 parts_fit : (mm : Metamodel) (content : Content) → Yields (FitParts mm) (checked mm content)
 unfolding checked
@@ -190,8 +190,8 @@ parts_fit mm content =
     yields_both (yields_both (yields_both (yields_both (yields_both (yields_both
     (yields_good _ (λ domain _ layers _ top _ mappings fit filters are tools _. (fit, are)))
     any) any) any)
-    (yields_each (λ i mapping. mapping_at mm content i (diagram / codes "mappings" ! i) mapping) 0 content.mappings (λ i mapping. mapping_fits mm content i (diagram / codes "mappings" ! i) mapping)))
-    (yields_each (λ i filter. filter_at mm content i (diagram / codes "filters" ! i) filter) 0 content.filters (λ i filter. filter_fits mm content i (diagram / codes "filters" ! i) filter)))
+    (yields_each (λ i mapping. mapping_at mm content i (diagram ▸ codes "mappings" ! i) mapping) 0 content.mappings (λ i mapping. mapping_fits mm content i (diagram ▸ codes "mappings" ! i) mapping)))
+    (yields_each (λ i filter. filter_at mm content i (diagram ▸ codes "filters" ! i) filter) 0 content.filters (λ i filter. filter_fits mm content i (diagram ▸ codes "filters" ! i) filter)))
     any
 
 pub mapping_of_fits : (mm : Metamodel) (spec : Specification) (n : ℕ) → IsCheckedBy mm spec → OfSome (FitMapping mm) (mapping_of spec n)
