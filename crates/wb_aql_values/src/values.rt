@@ -120,3 +120,12 @@ impl Duplicate for Value {
         }
     }
 }
+
+impl Duplicate for Answer {
+    fn copy(&self, alloc: Global) -> Result<Answer, AllocError> {
+        match self {
+            Answer::Value(value) => Ok(Answer::Value(value.copy(alloc)?)),
+            Answer::Fault(fault) => Ok(Answer::Fault(*fault)),
+        }
+    }
+}

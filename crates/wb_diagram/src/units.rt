@@ -1,4 +1,8 @@
+ghost use Rattle.std.specs.Prelude.{◌≡◌, IfOk};
+
 use crate::keys::{AnyKey, Key, Pair};
+use std::alloc::{AllocError, Global};
+use wb_base::Duplicate;
 
 /// An expression of a viewpoint at a place of the diagram: what is evaluated, and kept, by itself.
 #[derive(Debug, PartialEq, Eq, PartialOrd, Ord, Hash)]
@@ -48,5 +52,44 @@ impl Drop for Unit {
                 key: _key,
             } => {}
         }
+    }
+}
+
+impl Duplicate for Unit {
+    fn copy(&self, alloc: Global) -> Result<Unit, AllocError> {
+        match self {
+            Unit::Candidates { mapping, parent } => Ok(Unit::Candidates {
+                mapping: *mapping,
+                parent: copy_of_parent(alloc, parent)?,
+            }),
+            Unit::Precondition { key } => Ok(Unit::Precondition {
+                key: key.copy(alloc)?,
+            }),
+            Unit::EdgeCandidates { mapping } => Ok(Unit::EdgeCandidates { mapping: *mapping }),
+            Unit::EdgePrecondition { pair } => Ok(Unit::EdgePrecondition { pair: *pair }),
+            Unit::Source { pair } => Ok(Unit::Source { pair: *pair }),
+            Unit::Target { pair } => Ok(Unit::Target { pair: *pair }),
+            Unit::Style { style, key } => Ok(Unit::Style {
+                style: *style,
+                key: key.copy(alloc)?,
+            }),
+            Unit::Label { style, key } => Ok(Unit::Label {
+                style: *style,
+                key: key.copy(alloc)?,
+            }),
+            Unit::Filter { filter, key } => Ok(Unit::Filter {
+                filter: *filter,
+                key: key.copy(alloc)?,
+            }),
+        }
+    }
+}
+
+fn copy_of_parent(alloc: Global, parent: &Option<Key>) -> Result<Option<Key>, AllocError>
+    ensures { IfOk result (λ copy. copy ≡ parent.now) }
+{
+    match parent {
+        Some(key) => Ok(Some(key.copy(alloc)?)),
+        None => Ok(None),
     }
 }
