@@ -2,7 +2,7 @@ ghost use Rattle.std.specs.Prelude.{◌≡◌, ◌==◌, ◌<◌, length, IfOk, 
 ghost use Rattle.std.specs.FinMap.{keys, len};
 ghost use Rattle.wb_store.specs.Contents.{kind, slot, empty_contents};
 ghost use Rattle.wb_store.specs.Cells.{extent, holder, inverse, tree};
-ghost use Rattle.wb_validity.specs.Valid.{IsValid};
+ghost use Rattle.wb_validity.specs.Valid.{IsValid, conforms_to};
 
 use std::alloc::{AllocError, Global};
 use wb_base::{Duplicate, List};
@@ -93,6 +93,17 @@ impl Model {
         ensures known { IfSome result (λ c. c < length self.now.metamodel.classes) }
     {
         self.store.kind(o)
+    }
+
+    /// Is an object live, and of a class or of one below it?
+    pub fn is_of_class(&self, o: ObjectId, class: ClassId) -> bool
+        requires { class < length self.now.metamodel.classes }
+        ensures { result ≡ conforms_to self.now class o }
+    {
+        match self.kind(o) {
+            Some(own) => self.metamodel().conforms(own, class),
+            None => false,
+        }
     }
 
     /// The values of an object and a feature, in order; none of an object that is not live, or of another class's feature.

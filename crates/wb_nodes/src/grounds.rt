@@ -1,6 +1,5 @@
 ghost use Rattle.std.specs.Prelude.{◌≡◌};
 ghost use Rattle.std.specs.Option.{option_copied};
-ghost use Rattle.wb_validity.specs.Valid.{conforms_to};
 ghost use Rattle.wb_spec_check.specs.Units.{mapping_of};
 ghost use Rattle.wb_nodes.specs.Grounds.{HasClass, scene};
 ghost use Rattle.wb_nodes.specs.Nodes.{fits, is_conditional, is_cut, is_shown, node_in, node_mapping};
@@ -65,20 +64,6 @@ fn is_cut(path: &[Pair], pair: Pair) -> bool
     path.contains(&pair) || path.len() >= 32
 }
 
-// Is the object live, and of the class of the mapping?
-fn is_of_class(grounds: &Grounds<'_>, node: &CheckedNode, object: ObjectId) -> bool
-    requires { HasClass grounds.now node.now }
-    ensures { result ≡ conforms_to grounds.now.model.now node.now.objects.domain object }
-{
-    match grounds.model.kind(object) {
-        Some(class) => grounds
-            .model
-            .metamodel()
-            .conforms(class, node.objects.domain),
-        None => false,
-    }
-}
-
 /// Can the object stand under the path?
 pub fn fits(
     grounds: &Grounds<'_>,
@@ -95,7 +80,7 @@ pub fn fits(
         object,
     };
     let cut = is_cut(path, pair);
-    is_of_class(grounds, node, object) && !cut
+    grounds.model.is_of_class(object, node.objects.domain) && !cut
 }
 
 /// Is the mapping synchronised, or the key marked shown?
