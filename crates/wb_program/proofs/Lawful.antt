@@ -10,12 +10,9 @@ use Rattle.wb_store.specs.Contents.{Contents}
 use Rattle.wb_model_json.specs.ModelFile.{model}
 use Rattle.wb_viewpoint.specs.Reading.{viewpoint}
 use Rattle.wb_viewpoint.specs.declared.content.Content.{Content}
-use Rattle.wb_program.specs.declared.status.Status.TheVariants.{Done}
 use Rattle.wb_program.specs.declared.answer.Answer.{Answer}
 use Rattle.wb_program.specs.declared.answer.Ending.{Ending}
-use Rattle.wb_program.specs.declared.opening.ModelFile.{ModelFile}
-use Rattle.wb_program.specs.declared.viewpoint.Viewpoint.{Viewpoint}
-use Rattle.wb_program.specs.Answers.{not_built, usage, no_root_element, line}
+use Rattle.wb_program.specs.Answers.{not_built, usage, no_root_element, diagram_too_large}
 use Rattle.wb_program.specs.CodeNames.{metamodel_code_name, viewpoint_code_name, model_code_name}
 use Rattle.wb_program.specs.Words.{Sources, Task, check, draw, serve, big, task_in, texts_of, task_of, files_of}
 use Rattle.wb_program.specs.Course.{gives, stops, ◌>>=◌}
@@ -24,14 +21,13 @@ use Rattle.wb_program.specs.Asked.{AsksInTurn}
 use Rattle.wb_program.specs.Taking.{taken, used}
 use Rattle.wb_program.specs.Reading.{or_refused, or_else}
 use Rattle.wb_program.specs.Checking.{check_answer, or_bad}
-use Rattle.wb_spec_check.specs.Checked.{checked}
+use Rattle.wb_spec_check.specs.Checked.{Specification, checked}
 use Rattle.wb_spec_check.specs.Validated.{Validated, good, bad}
 use Rattle.wb_spec_check.specs.declared.parts.Parts.{Parts}
-use Rattle.wb_program.specs.Viewpoint.{thin_viewpoint}
-use Rattle.wb_program.specs.Picture.{served}
+use Rattle.wb_program.specs.Drawing.{drawn, is_too_large, picture_answer}
 use Rattle.wb_program.specs.Steps.{Went}
 use Rattle.wb_program.specs.Runs.{IsDecision, Settles}
-use Rattle.wb_program.specs.Opening.{metamodel_under, viewpoint_under, model_under, sized, root_in, is_thin_model, pictured, picture_of, picture_from, checked_under, checking, drawing, task_course, course_for, course_of}
+use Rattle.wb_program.specs.Opening.{metamodel_under, viewpoint_under, model_under, root_element, picture_from, checked_under, checking, drawing, task_course, course_for, course_of}
 use Rattle.wb_program.proofs.CausedAnswers.{AnyValue, AnswerCaused, causes_then, causes_taken, causes_or_refused, causes_or_else, not_built_caused, usage_caused, no_root_caused}
 use Rattle.wb_program.proofs.AskedNames.{turns_then}
 use Rattle.wb_program.proofs.Endings.{decided, decided_at_once}
@@ -80,41 +76,43 @@ turns_viewpoint name = turns_read viewpoint_code_name name viewpoint
 
 causes_model : (mm : Metamodel) (name : List ℕ) (failed : Bool) → HasCauses AnyValue failed (model_under mm name)
 unfolding model_under
-causes_model mm name failed = causes_read model_code_name name (λ bytes. sized (length bytes) (model mm bytes)) failed
+causes_model mm name failed = causes_read model_code_name name (model mm) failed
 
 turns_model : (mm : Metamodel) (name : List ℕ) → AsksInTurn (name ∷ []) (model_under mm name)
 unfolding model_under
-turns_model mm name = turns_read model_code_name name (λ bytes. sized (length bytes) (model mm bytes))
+turns_model mm name = turns_read model_code_name name (model mm)
 
 -- ---- the picture
 
-drawn : (m : Contents) (root : ℕ) (failed : Bool) (found : Option Viewpoint) (answer : Answer)
-    → option_map (λ (v : Viewpoint). line Done (served (record { viewpoint = v; model = m; root = root }))) found ≡ Some answer → AnswerCaused failed answer
-drawn m root failed None answer is = cc
-drawn m root failed (Some v) answer is =
-    let whole : Answer = line Done (served (record { viewpoint = v; model = m; root = root })) in
-    let same : whole ≡ answer = cc in subst (AnswerCaused failed) same tt
+large_or_drawn : (large failed : Bool) (answer : Answer) → AnswerCaused failed answer → HasCauses AnswerCaused failed (cond large (stops diagram_too_large) (gives answer))
+unfolding diagram_too_large
+large_or_drawn true failed answer h = tt
+large_or_drawn false failed answer h = h
 
-if_thin : (failed thin : Bool) (found : Option Answer) (answer : Answer) → ((a : Answer) → found ≡ Some a → AnswerCaused failed a) → cond thin found None ≡ Some answer → AnswerCaused failed answer
-if_thin failed true found answer h is = h answer is
-if_thin failed false found answer h is = cc
+large_or_turns : (large : Bool) (answer : Answer) → AsksInTurn [] (cond large (stops diagram_too_large) (gives answer))
+large_or_turns true answer = tt
+large_or_turns false answer = tt
 
-pictured_caused : (content : Content) (file : ModelFile) (root : ℕ) (failed : Bool) (answer : Answer) → picture_of content file root ≡ Some answer → AnswerCaused failed answer
-unfolding picture_of pictured
-pictured_caused content file root failed answer is = if_thin failed (is_thin_model file) (pictured content file.model root) answer (λ a. drawn file.model root failed (thin_viewpoint file.model.metamodel content) a) is
+causes_drawn : (spec : Specification) (m : Contents) (root : ℕ) (failed : Bool) → HasCauses AnswerCaused failed (drawn spec m root)
+unfolding drawn
+causes_drawn spec m root failed = large_or_drawn (is_too_large spec m root) failed (picture_answer spec m root) tt
 
-causes_picture : (name : List ℕ) (content : Content) (file : ModelFile) (failed : Bool) → HasCauses AnswerCaused failed (picture_from name content file)
+turns_drawn : (spec : Specification) (m : Contents) (root : ℕ) → AsksInTurn [] (drawn spec m root)
+unfolding drawn
+turns_drawn spec m root = large_or_turns (is_too_large spec m root) (picture_answer spec m root)
+
+causes_picture : (name : List ℕ) (spec : Specification) (m : Contents) (failed : Bool) → HasCauses AnswerCaused failed (picture_from name spec m)
 unfolding picture_from
-causes_picture name content file failed =
-    causes_then AnswerCaused failed (or_else (no_root_element name) (root_in file.model content.domain)) _
-    (causes_or_else AnyValue failed (no_root_element name) (root_in file.model content.domain) (no_root_caused name failed) (λ root is. tt))
-    (λ root b. causes_or_else AnswerCaused b not_built (picture_of content file root) (not_built_caused b) (pictured_caused content file root b))
+causes_picture name spec m failed =
+    causes_then AnswerCaused failed (or_else (no_root_element name) (root_element m spec.1.domain)) (drawn spec m)
+    (causes_or_else AnyValue failed (no_root_element name) (root_element m spec.1.domain) (no_root_caused name failed) (λ root is. tt))
+    (λ root b. causes_drawn spec m root b)
 
-turns_picture : (name : List ℕ) (content : Content) (file : ModelFile) → AsksInTurn [] (picture_from name content file)
+turns_picture : (name : List ℕ) (spec : Specification) (m : Contents) → AsksInTurn [] (picture_from name spec m)
 unfolding picture_from
-turns_picture name content file =
-    turns_then [] [] (or_else (no_root_element name) (root_in file.model content.domain)) _ (turns_or_else (no_root_element name) (root_in file.model content.domain))
-    (λ root. turns_or_else not_built (picture_of content file root))
+turns_picture name spec m =
+    turns_then [] [] (or_else (no_root_element name) (root_element m spec.1.domain)) (drawn spec m) (turns_or_else (no_root_element name) (root_element m spec.1.domain))
+    (λ root. turns_drawn spec m root)
 
 -- ---- the check of a viewpoint
 
@@ -160,14 +158,14 @@ unfolding drawing
 causes_drawing sources failed =
     causes_then AnswerCaused failed (metamodel_under sources.metamodel) _ (causes_metamodel sources.metamodel failed) (λ mm b.
     causes_then AnswerCaused b (checked_under mm sources.viewpoint) _ (causes_checked mm sources.viewpoint b) (λ spec d.
-    causes_then AnswerCaused d (model_under mm sources.model) (picture_from sources.model spec.0) (causes_model mm sources.model d) (λ file e. causes_picture sources.model spec.0 file e)))
+    causes_then AnswerCaused d (model_under mm sources.model) (picture_from sources.model spec) (causes_model mm sources.model d) (λ m e. causes_picture sources.model spec m e)))
 
 turns_drawing : (sources : Sources) → AsksInTurn (sources.metamodel ∷ sources.viewpoint ∷ sources.model ∷ []) (drawing sources)
 unfolding drawing
 turns_drawing sources =
     turns_then (sources.metamodel ∷ []) (sources.viewpoint ∷ sources.model ∷ []) (metamodel_under sources.metamodel) _ (turns_metamodel sources.metamodel) (λ mm.
     turns_then (sources.viewpoint ∷ []) (sources.model ∷ []) (checked_under mm sources.viewpoint) _ (turns_checked mm sources.viewpoint) (λ spec.
-    turns_then (sources.model ∷ []) [] (model_under mm sources.model) (picture_from sources.model spec.0) (turns_model mm sources.model) (λ file. turns_picture sources.model spec.0 file)))
+    turns_then (sources.model ∷ []) [] (model_under mm sources.model) (picture_from sources.model spec) (turns_model mm sources.model) (λ m. turns_picture sources.model spec m)))
 
 pub causes_of_course : (words : List (List ℕ)) → HasCauses AnswerCaused false (course_of words)
 unfolding course_of

@@ -22,6 +22,9 @@ cannot_read name = line ShelfFault (codes "cannot read " ++ name)
 unfoldable pub too_large : List ℕ → Answer
 too_large name = line TooLarge (codes "too large " ++ name)
 
+unfoldable pub diagram_too_large : Answer
+diagram_too_large = line TooLarge (codes "diagram too large")
+
 -- what is wrong in the file of a name, and where
 unfoldable pub bad : List ℕ → Place → List ℕ → Answer
 bad name place code = line BadInput (codes "bad " ++ name ++ codes " " ++ place ++ codes " " ++ code)

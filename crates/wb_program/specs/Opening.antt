@@ -1,30 +1,24 @@
 -- The course of a run: the metamodel is taken, sized and read, then the viewpoint, then the model; then the root element is
 -- found, and the picture is drawn. The first failure ends it.
-use Rattle.std.specs.Prelude.{ℕ, ◌&&◌, nat_le, Bool, List, length, Option, Some, None, option_map, Result, Ok, Err, if◌then◌else◌}
-use Rattle.std.specs.FinMap.{len}
-use Rattle.wb_base.specs.Options as options
-use Rattle.wb_json.specs.Place.{Place}
-use Rattle.wb_metamodel.specs.Metamodel.{Metamodel, class_named}
+use Rattle.std.specs.Prelude.{ℕ, List, Option, Some, None, find}
+use Rattle.wb_metamodel.specs.Metamodel.{Metamodel}
 use Rattle.wb_metamodel.specs.Checks.{metamodel}
 use Rattle.wb_store.specs.Contents.{Contents}
+use Rattle.wb_validity.specs.Valid.{conforms_to}
 use Rattle.wb_viewpoint.specs.Reading.{viewpoint}
 use Rattle.wb_viewpoint.specs.declared.content.Content.{Content}
 use Rattle.wb_spec_check.specs.Checked.{Specification, checked}
 use Rattle.wb_model_json.specs.ModelFile.{model}
-use Rattle.wb_model_json.specs.declared.refusal.ModelCode.{ModelCode}
-use Rattle.wb_program.specs.declared.status.Status.TheVariants.{Done}
 use Rattle.wb_program.specs.declared.answer.Answer.{Answer}
-use Rattle.wb_program.specs.declared.opening.ModelFile.{ModelFile}
 use Rattle.wb_program.specs.Words.{Sources, Task, check, draw, serve, big, task_of}
-use Rattle.wb_program.specs.Answers.{line, not_built, usage, no_root_element}
+use Rattle.wb_program.specs.Answers.{not_built, usage, no_root_element}
 use Rattle.wb_program.specs.CodeNames.{metamodel_code_name, viewpoint_code_name, model_code_name}
 use Rattle.wb_program.specs.Checking.{check_answer, or_bad}
 use Rattle.wb_program.specs.Course.{Course, gives, stops, ◌>>=◌}
+use Rattle.wb_program.specs.Drawing.{drawn}
 use Rattle.wb_program.specs.Taking.{taken}
 use Rattle.wb_program.specs.Reading.{or_refused, or_else}
 use Rattle.wb_program.specs.Files.{Files, answer_over}
-use Rattle.wb_program.specs.Viewpoint.{thin_viewpoint}
-use Rattle.wb_program.specs.Picture.{root_element, served}
 
 -- ---- files
 
@@ -38,36 +32,18 @@ viewpoint_under name = taken name >>= (λ bytes. or_refused viewpoint_code_name 
 unfoldable pub checked_under : Metamodel → List ℕ → Course Specification
 checked_under mm name = viewpoint_under name >>= (λ content. or_bad name content (checked mm content))
 
--- a model, and how many bytes its text has
-abbrev pub sized : ℕ → Result Contents (ModelCode × Place) → Result ModelFile (ModelCode × Place)
-sized size (Ok m) = Ok (record { model = m; size = size })
-sized size (Err wrong) = Err wrong
-
-unfoldable pub model_under : Metamodel → List ℕ → Course ModelFile
-model_under mm name = taken name >>= (λ bytes. or_refused model_code_name name (sized (length bytes) (model mm bytes)))
+unfoldable pub model_under : Metamodel → List ℕ → Course Contents
+model_under mm name = taken name >>= (λ bytes. or_refused model_code_name name (model mm bytes))
 
 -- ---- the picture
 
--- the first root that conforms to the class of this name
-unfoldable pub root_in : Contents → List ℕ → Option ℕ
-root_in m domain = options.◌>>=◌ (class_named m.metamodel domain) (root_element m)
-
--- the text has at most 1,048,576 bytes, and the model at most 1,000 objects
-abbrev pub is_thin_model : ModelFile → Bool
-is_thin_model file = nat_le file.size 1048576 && nat_le (len file.model.kinds) 1000
-
--- the picture of a model under a viewpoint, and LF
-unfoldable pub pictured : Content → Contents → ℕ → Option Answer
-pictured content m root =
-    option_map (λ viewpoint. line Done (served (record { viewpoint = viewpoint; model = m; root = root }))) (thin_viewpoint m.metamodel content)
-
--- the same, where both are thin
-unfoldable pub picture_of : Content → ModelFile → ℕ → Option Answer
-picture_of content file root = if is_thin_model file then pictured content file.model root else None
+-- the first root that conforms to a class
+abbrev pub root_element : Contents → ℕ → Option ℕ
+root_element m class = find (conforms_to m class) m.roots
 
 -- the picture from the root element of a model, which stands in the file of this name
-unfoldable pub picture_from : List ℕ → Content → ModelFile → Course Answer
-picture_from name content file = or_else (no_root_element name) (root_in file.model content.domain) >>= (λ root. or_else not_built (picture_of content file root))
+unfoldable pub picture_from : List ℕ → Specification → Contents → Course Answer
+picture_from name spec m = or_else (no_root_element name) (root_element m spec.1.domain) >>= drawn spec m
 
 -- ---- tasks
 
@@ -83,8 +59,8 @@ unfoldable pub drawing : Sources → Course Answer
 drawing sources = do
   mm ← metamodel_under sources.metamodel
   spec ← checked_under mm sources.viewpoint
-  file ← model_under mm sources.model
-  picture_from sources.model spec.0 file
+  m ← model_under mm sources.model
+  picture_from sources.model spec m
 
 -- the course of a task
 abbrev pub task_course : Task → Course Answer

@@ -7,9 +7,6 @@ use Rattle.wb_outer.specs.Shelf.{ShelfTold}
 use Rattle.wb_program.specs.declared.answer.Answer.{Answer}
 use Rattle.wb_program.specs.declared.answer.Ending.{Ending}
 use Rattle.wb_program.specs.declared.answer.Ending.TheVariants as ending
-use Rattle.wb_program.specs.declared.refusal.Refusal.{Refusal}
-use Rattle.wb_program.specs.declared.refusal.Refusal.TheVariants as refusal
-use Rattle.wb_program.specs.Answers.{not_built}
 use Rattle.wb_program.specs.Course.{Course, gives, stops, after}
 use Rattle.wb_program.specs.Files.{Files}
 use Rattle.wb_program.specs.Causes.{some_failed}
@@ -43,15 +40,3 @@ pub record Went {A : Type 0} (result : Result A Ending) (course : Course A) (old
 abbrev pub EndsWith : Ending → Answer → Type 0
 EndsWith (ending.Answer given) answer = given ≡ answer
 EndsWith ending.NoMemory answer = ⊤
-
--- ---- what a run does with what a private step finds
-
--- the answer ends the run, unless memory was wanting
-abbrev pub StopsWith : {A : Type 0} → Result A Ending → Answer → Type 0
-StopsWith (Ok x) answer = ⊥
-StopsWith (Err given) answer = EndsWith given answer
-
-abbrev pub Turns : {A : Type 0} → Result A Refusal → Result A Ending → Type 0
-Turns (Ok x) result = result ≡ Ok x
-Turns (Err refusal.NotThin) result = StopsWith result not_built
-Turns (Err refusal.NoMemory) result = result ≡ Err ending.NoMemory

@@ -1,7 +1,7 @@
 ghost use Rattle.std.specs.Prelude.{◌≡◌, ◌++◌, IfOk, OnOk, codes};
 ghost use Rattle.wb_program.specs.declared.answer.Answer.{Answer};
 ghost use Rattle.wb_program.specs.declared.answer.Ending.TheVariants.{NoMemory};
-ghost use Rattle.wb_program.specs.Answers.{not_built, usage, cannot_read, too_large, bad, refused, no_root_element, line};
+ghost use Rattle.wb_program.specs.Answers.{not_built, usage, cannot_read, too_large, diagram_too_large, bad, refused, no_root_element, line};
 ghost use Rattle.wb_program.specs.Steps.{EndsWith};
 
 use crate::status::Status;
@@ -79,6 +79,18 @@ pub fn too_large(alloc: Global, name: &[u8]) -> Result<Answer, AllocError>
     ensures { IfOk result (λ answer. answer ≡ too_large name.now) }
 {
     named_line(alloc, Status::TooLarge, b"too large ", name)
+}
+
+/// The line for a diagram that passes a limit.
+#[tactic(auto, unfolding(crate::specs::Answers::diagram_too_large))]
+pub fn diagram_too_large(alloc: Global) -> Result<Answer, AllocError>
+    ensures { IfOk result (λ answer. answer ≡ diagram_too_large) }
+{
+    let text = Bytes::from_slice(alloc, b"diagram too large\n")?;
+    Ok(Answer {
+        status: Status::TooLarge,
+        text,
+    })
 }
 
 fn named_line(

@@ -1,5 +1,5 @@
-ghost use Rattle.std.specs.Prelude.{Some};
-ghost use Rattle.wb_spec_check.specs.Checked.{checked};
+ghost use Rattle.std.specs.Prelude.{Some, IfOk};
+ghost use Rattle.wb_spec_check.specs.Checked.{checked, IsCheckedBy};
 ghost use Rattle.wb_program.specs.Checking.{or_bad};
 ghost use Rattle.wb_program.specs.Steps.{Went, Reaches};
 ghost use Rattle.wb_program.specs.Opening.{checked_under, checking};
@@ -34,7 +34,8 @@ pub fn take_checked<H: Shelf>(
     name: &[u8],
     metamodel: &Metamodel,
 ) -> Result<CheckedViewpoint, Ending>
-    ensures { Went result (checked_under metamodel.now name.now) (H.told shelf.old) (H.told shelf.new) }
+    ensures went { Went result (checked_under metamodel.now name.now) (H.told shelf.old) (H.told shelf.new) }
+    ensures checked { IfOk result (IsCheckedBy metamodel.now) }
 {
     let viewpoint = take_viewpoint(alloc, shelf, name)?;
     good_viewpoint(alloc, name, viewpoint, metamodel)
@@ -47,7 +48,8 @@ fn good_viewpoint(
     viewpoint: Viewpoint,
     metamodel: &Metamodel,
 ) -> Result<CheckedViewpoint, Ending>
-    ensures { Reaches result (Some (or_bad name.now viewpoint (checked metamodel.now viewpoint))) }
+    ensures reaches { Reaches result (Some (or_bad name.now viewpoint (checked metamodel.now viewpoint))) }
+    ensures checked { IfOk result (IsCheckedBy metamodel.now) }
 {
     match check_viewpoint(alloc, viewpoint, metamodel)? {
         Checking::Good(checked) => Ok(checked),

@@ -2,24 +2,17 @@
 #![tactic(auto)]
 
 mod answer;
-mod candidates;
 mod checking;
 mod code_names;
 mod commands;
 mod drawing;
-mod expressions;
-mod feature_expressions;
 mod files;
 mod forms;
-mod nodes;
 mod opening;
-mod picture;
 mod problem_lines;
-mod refusal;
+mod root;
 mod run;
 mod status;
-mod thin;
-mod viewpoint;
 mod words;
 
 pub use run::workbench;

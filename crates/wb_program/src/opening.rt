@@ -1,11 +1,11 @@
-ghost use Rattle.std.specs.Prelude.{Some, length};
+ghost use Rattle.std.specs.Prelude.{◌≡◌, Some, IfOk};
 ghost use Rattle.wb_metamodel.specs.Checks.{metamodel};
 ghost use Rattle.wb_viewpoint.specs.Reading.{viewpoint};
 ghost use Rattle.wb_model_json.specs.ModelFile.{model};
 ghost use Rattle.wb_program.specs.CodeNames as names;
 ghost use Rattle.wb_program.specs.Reading.{or_refused};
 ghost use Rattle.wb_program.specs.Steps.{Went, Reaches};
-ghost use Rattle.wb_program.specs.Opening.{metamodel_under, viewpoint_under, model_under, sized};
+ghost use Rattle.wb_program.specs.Opening.{metamodel_under, viewpoint_under, model_under};
 
 use crate::answer::{Ending, refusal};
 use crate::code_names::{metamodel_code_name, model_code_name, viewpoint_code_name};
@@ -17,13 +17,6 @@ use wb_model::Model;
 use wb_model_json::read_model;
 use wb_outer::{Bytes, Shelf};
 use wb_viewpoint::{Viewpoint, read_viewpoint};
-
-/// A model, and how many bytes its text has.
-#[derive(Drop)]
-pub struct ModelFile {
-    pub model: Model,
-    pub size: usize,
-}
 
 /// Takes the metamodel's file, sizes it and reads it.
 pub fn take_metamodel<H: Shelf>(
@@ -55,8 +48,9 @@ pub fn take_model<H: Shelf>(
     shelf: &mut H,
     name: &[u8],
     metamodel: Metamodel,
-) -> Result<ModelFile, Ending>
-    ensures { Went result (model_under metamodel name.now) (H.told shelf.old) (H.told shelf.new) }
+) -> Result<Model, Ending>
+    ensures went { Went result (model_under metamodel name.now) (H.told shelf.old) (H.told shelf.new) }
+    ensures over { IfOk result (λ model. model.metamodel ≡ metamodel) }
 {
     let bytes = take_file(alloc, shelf, name)?;
     model_in(alloc, name, metamodel, &bytes)
@@ -100,12 +94,12 @@ fn model_in(
     name: &[u8],
     metamodel: Metamodel,
     bytes: &Bytes,
-) -> Result<ModelFile, Ending>
-    ensures { Reaches result (Some (or_refused names.model_code_name name.now (sized (length bytes.now) (model metamodel bytes.now)))) }
+) -> Result<Model, Ending>
+    ensures reaches { Reaches result (Some (or_refused names.model_code_name name.now (model metamodel bytes.now))) }
+    ensures over { IfOk result (λ model. model.metamodel ≡ metamodel) }
 {
-    let size = bytes.as_slice().len();
     match read_model(alloc, metamodel, bytes.as_slice()) {
-        Ok(model) => Ok(ModelFile { model, size }),
+        Ok(model) => Ok(model),
         Err(FileRefusal::At(code, place)) => Err(refusal(
             alloc,
             name,

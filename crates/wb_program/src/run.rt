@@ -43,19 +43,20 @@ pub fn workbench<H: Shelf, D: Door, K: Keeper, O: Sink, L>(
     ensures door_stays { asked.takes_connections (asked.task_of words.now) ≡ false → door.new ≡ door.old }
     ensures keeper_stays { asked.takes_connections (asked.task_of words.now) ≡ false → keeper.new ≡ keeper.old }
 {
-    run_words(alloc, words, shelf, out)
+    run_words(alloc, words, shelf, out, steps)
 }
 
 /// Does what the words ask for, and prints the answer.
-fn run_words<H: Shelf, O: Sink>(
+fn run_words<H: Shelf, O: Sink, L>(
     alloc: Global,
     words: &[Bytes],
     shelf: &mut H,
     out: &mut O,
+    steps: &mut Steps<L>,
 ) -> Status
     ensures { Runs (course_of words.now) result (H.told shelf.old) (H.told shelf.new) (O.told out.old) (O.told out.new) }
 {
-    match decide(alloc, words, shelf) {
+    match decide(alloc, words, shelf, steps) {
         Ok(answer) => print(out, &answer),
         Err(_) => Status::NoMemory,
     }
@@ -63,32 +64,47 @@ fn run_words<H: Shelf, O: Sink>(
 
 /// What a run ends with, before it is printed.
 #[tactic(auto, unfolding(crate::specs::Words::task_of))]
-fn decide<H: Shelf>(alloc: Global, words: &[Bytes], shelf: &mut H) -> Result<Answer, AllocError>
+fn decide<H: Shelf, L>(
+    alloc: Global,
+    words: &[Bytes],
+    shelf: &mut H,
+    steps: &mut Steps<L>,
+) -> Result<Answer, AllocError>
     ensures { IsDecision result (course_of words.now) (H.told shelf.old) (H.told shelf.new) }
 {
     match texts_of(alloc, words)? {
-        Some(texts) => decide_on(alloc, texts.as_slice(), shelf),
+        Some(texts) => decide_on(alloc, texts.as_slice(), shelf, steps),
         None => usage(alloc),
     }
 }
 
 /// The same for words that are UTF-8.
-fn decide_on<H: Shelf>(alloc: Global, words: &[&str], shelf: &mut H) -> Result<Answer, AllocError>
+fn decide_on<H: Shelf, L>(
+    alloc: Global,
+    words: &[&str],
+    shelf: &mut H,
+    steps: &mut Steps<L>,
+) -> Result<Answer, AllocError>
     ensures { IsDecision result (course_for (asked.task_in (map (λ word. word.now) words.now))) (H.told shelf.old) (H.told shelf.new) }
 {
     match task_of(alloc, words)? {
-        Some(task) => conclude(perform(alloc, shelf, task)),
+        Some(task) => conclude(perform(alloc, shelf, task, steps)),
         None => usage(alloc),
     }
 }
 
 /// Does a task, up to what is printed.
-fn perform<H: Shelf>(alloc: Global, shelf: &mut H, task: Task<'_>) -> Result<Answer, Ending>
+fn perform<H: Shelf, L>(
+    alloc: Global,
+    shelf: &mut H,
+    task: Task<'_>,
+    steps: &mut Steps<L>,
+) -> Result<Answer, Ending>
     ensures { Went result (task_course (shown task.entry)) (H.told shelf.old) (H.told shelf.new) }
 {
     match task {
         Task::Check(metamodel, viewpoint) => check(alloc, shelf, metamodel, viewpoint),
-        Task::Draw(sources) => draw(alloc, shelf, sources),
+        Task::Draw(sources) => draw(alloc, shelf, sources, steps),
         Task::Serve(..) => Err(ended_by(not_built(alloc))),
         Task::Big(_) => Err(ended_by(not_built(alloc))),
     }
