@@ -14,3 +14,4 @@ pub mod Steps
 pub mod Taking
 pub mod Tasks
 pub mod Words
+pub mod Written

@@ -9,6 +9,7 @@ mod drawing;
 mod files;
 mod forms;
 mod opening;
+mod picture;
 mod problem_lines;
 mod root;
 mod run;
