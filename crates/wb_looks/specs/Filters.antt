@@ -30,7 +30,7 @@ filter_unit spec f key = if is_filtered spec f key then FilterUnit f key ∷ [] 
 
 -- the numbers of the viewpoint's filters
 abbrev pub filter_numbers : Specification → List ℕ
-filter_numbers spec = numbers (length spec.0.filters)
+filter_numbers spec = numbers (length spec.1.filters)
 
 -- ---- all filters, whatever is active
 

@@ -1,7 +1,6 @@
 ghost use Rattle.std.specs.Prelude.{◌≡◌, All, IfOk, map};
 ghost use Rattle.wb_answers.specs.Seen.{Told};
 ghost use Rattle.wb_looks.specs.Filters.{filtered};
-ghost use Rattle.wb_looks.specs.Looks.{HasMapping};
 ghost use Rattle.wb_looks.specs.Visible.{HasGround, is_visible, switches_of};
 
 use crate::switches::Switches;
@@ -18,7 +17,6 @@ pub fn visible(
     _hides: &[List<bool>],
     _switches: &Switches<'_>,
 ) -> Result<List<bool>, AllocError>
-    requires mappings { All (HasMapping _spec.now) _keys.now }
     requires grounded { All (HasGround _keys.now) _keys.now }
     ensures { (told : Told) → _hides.now ≡ filtered _spec.now told _keys.now
         → IfOk result (λ flags. flags ≡ map (is_visible _spec.now told (switches_of _switches.now)) _keys.now) }
