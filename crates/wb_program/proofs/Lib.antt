@@ -1,6 +1,7 @@
 pub mod AskedNames
 pub mod CausedAnswers
 pub mod Courses
+pub mod Drawings
 pub mod Endings
 pub mod Gifts
 pub mod Lawful
@@ -8,6 +9,7 @@ pub mod Numerals
 pub mod OverFiles
 pub mod Problems
 pub mod RootSteps
+pub mod Shown
 pub mod StepLemmas
 pub mod Taken
 pub mod Texts
