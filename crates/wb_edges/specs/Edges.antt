@@ -68,9 +68,9 @@ elements_of s mappings = filter (is_of mappings) s.nodes
 abbrev pub elements_for : Scene → (mappings : List ℕ) → ℕ → List Key
 elements_for s mappings o = filter (represents o) (elements_of s mappings)
 
--- the objects of declared elements of these mappings, each once, in declared order
-abbrev pub objects_by : Scene → (mappings : List ℕ) → List ℕ
-objects_by s mappings = first_places (map (λ (key : Key). (own_pair key).object) (elements_of s mappings))
+-- the objects of elements, each once
+abbrev pub objects_by : List Key → List ℕ
+objects_by elements = first_places (map (λ (key : Key). (own_pair key).object) elements)
 
 -- ---- the objects that edges stand for
 
@@ -80,7 +80,7 @@ candidates_by s told n source = filter (conforms_to s.model source.objects.domai
 
 -- the semantic objects: the candidates, or the objects of the declared source elements
 unfoldable pub semantic : Scene → Told → ℕ → CheckedEdge → List ℕ
-semantic s told n edge = option_map_or (candidates_by s told n) edge.object_edge (objects_by s edge.sources)
+semantic s told n edge = option_map_or (candidates_by s told n) edge.object_edge (objects_by (elements_of s edge.sources))
 
 abbrev pub pair_of : ℕ → ℕ → Pair
 pair_of n o = record { mapping = n; object = o }
@@ -106,8 +106,8 @@ edge_between pair source target = record { mapping = pair.mapping; object = pair
 abbrev pub edges_between : Scene → CheckedEdge → Pair → (sources targets : List ℕ) → List EdgeKey
 edges_between s edge pair sources targets =
     flat_map (λ (from : ℕ). flat_map (λ (source : Key).
-    flat_map (λ (to : ℕ). map (edge_between pair source) (elements_for s edge.targets to)) targets)
-    (elements_for s edge.sources from)) sources
+      flat_map (λ (to : ℕ). map (edge_between pair source) (elements_for s edge.targets to)) targets)
+      (elements_for s edge.sources from)) sources
 
 -- what a semantic object declares
 unfoldable pub edges_at : Scene → Told → CheckedEdge → Pair → List EdgeKey
