@@ -5,3 +5,4 @@ pub mod Putting
 pub mod Draws
 pub mod Between
 pub mod Once
+pub mod Ending

@@ -12,7 +12,7 @@ use crate::ends::ends_of;
 use crate::grounds::{Grounds, count_of_mappings, edge_mapping};
 use crate::semantic::semantic;
 use indexmap::IndexSet;
-use std::alloc::Global;
+use std::alloc::{AllocError, Global};
 use wb_answers::{Answers, Stop};
 use wb_base::List;
 use wb_diagram::{EdgeKey, Key};
@@ -50,6 +50,13 @@ pub fn declare_edges<A: Answers>(
     };
     let mut edges = IndexSet::new(alloc);
     declare_all(&grounds, &mut edges, answers)?;
+    Ok(in_order(alloc, edges)?)
+}
+
+// The keys of a set as a list.
+fn in_order(alloc: Global, edges: IndexSet<EdgeKey>) -> Result<List<EdgeKey>, AllocError>
+    ensures { IfOk result (λ keys. keys ≡ edges.keys) }
+{
     Ok(List::from_vec(edges.into_iter().collect(alloc)?))
 }
 
