@@ -1,25 +1,13 @@
 -- Edges that are put one after the other stand each at its first place.
 use Rattle.std.proofs.Common.{◌≡◌, Bool, true, false, not, cond, ◌&&◌, ◌||◌, List, [], ◌∷◌, ◌++◌, filter, refl, sym, ap, ◌∙◌, append-nil, append_assoc, if◌then◌else◌}
-use Rattle.std.specs.Cmp.{IsEquivalence, and_equiv, nat_eq_equiv, on_equiv}
-use Rattle.std.specs.Cmp.Lexicographic.{lists_equiv}
 use Rattle.std.specs.List.{list_any}
 use Rattle.std.proofs.lemmas.List.Elements.{filter_agree}
 use Rattle.std.proofs.lemmas.List.Folds.{list_any-append}
 use Rattle.wb_diagram.specs.declared.keys.EdgeKey.{EdgeKey}
-use Rattle.wb_diagram.specs.declared.keys.Key.{Key}
-use Rattle.wb_answers.specs.SameKeys.{same_key}
-use Rattle.wb_answers.proofs.SameKeyLaws.{pair_equiv}
-use Rattle.wb_edges.specs.Edges.{each_once, same_edge}
+use Rattle.wb_answers.specs.SameKeys.{same_edge}
+use Rattle.wb_answers.proofs.SameKeyLaws.{edge_equiv}
+use Rattle.wb_edges.specs.Edges.{each_once}
 use Rattle.wb_edges.specs.Puts.{put_all}
-
-key_equiv : IsEquivalence same_key
-key_equiv = on_equiv (λ (key : Key). key.pairs) (lists_equiv pair_equiv)
-
-edge_equiv : IsEquivalence same_edge
-edge_equiv =
-    and_equiv (on_equiv (λ (e : EdgeKey). e.mapping) nat_eq_equiv)
-    (and_equiv (on_equiv (λ (e : EdgeKey). e.object) nat_eq_equiv)
-    (and_equiv (on_equiv (λ (e : EdgeKey). e.source) key_equiv) (on_equiv (λ (e : EdgeKey). e.target) key_equiv)))
 
 -- the edge is none of these
 abbrev fresh : List EdgeKey → EdgeKey → Bool

@@ -8,7 +8,7 @@ use Rattle.wb_diagram.specs.contracts.keys.EdgeKeyPartialEq.TheImpl.{eq-value}
 use Rattle.wb_answers.specs.declared.answers.Stop.{Stop}
 use Rattle.wb_answers.specs.declared.answers.Stop.TheVariants.{NoMemory, TooLarge}
 use Rattle.wb_answers.proofs.SeenLoops.{flat_map_next, flat_map_rest}
-use Rattle.wb_edges.specs.Edges.{same_edge}
+use Rattle.wb_answers.specs.SameKeys.{same_edge}
 use Rattle.wb_edges.specs.Puts.{put, put_all, Puts}
 
 pub same_edges : (x y : EdgeKey) → eq-value.it x y ≡ same_edge x y

@@ -20,7 +20,7 @@ use Rattle.wb_spec_check.specs.declared.checked_mappings.CheckedForm.TheVariants
 use Rattle.wb_spec_check.specs.declared.checked_mappings.CheckedMapping.{CheckedMapping}
 use Rattle.wb_spec_check.specs.declared.checked_mappings.CheckedSource.{CheckedSource}
 use Rattle.wb_answers.specs.Meanings.{is_true, objects_of}
-use Rattle.wb_answers.specs.SameKeys.{same_key}
+use Rattle.wb_answers.specs.SameKeys.{same_edge}
 use Rattle.wb_answers.specs.Seen.{Told}
 
 -- a model under a viewpoint, with the declared elements in order
@@ -121,9 +121,6 @@ edges_with s told n edge = flat_map (λ (o : ℕ). edges_at s told edge (pair_of
 -- what the mapping of this number declares
 unfoldable pub edges_by : Scene → Told → ℕ → List EdgeKey
 edges_by s told n = option_map_or (edges_with s told n) (edge_mapping s.spec n) []
-
-abbrev pub same_edge : EdgeKey → EdgeKey → Bool
-same_edge a b = nat_eq a.mapping b.mapping && (nat_eq a.object b.object && (same_key a.source b.source && same_key a.target b.target))
 
 -- each edge at its first place alone
 unfoldable pub each_once : List EdgeKey → List EdgeKey

@@ -6,7 +6,8 @@ use Rattle.wb_diagram.specs.declared.keys.Key.{Key}
 use Rattle.wb_diagram.specs.declared.keys.Pair.{Pair}
 use Rattle.wb_answers.specs.declared.answers.Stop.{Stop}
 use Rattle.wb_answers.specs.declared.answers.Stop.TheVariants.{TooLarge}
-use Rattle.wb_edges.specs.Edges.{edge_between, same_edge}
+use Rattle.wb_edges.specs.Edges.{edge_between}
+use Rattle.wb_answers.specs.SameKeys.{same_edge}
 
 -- an edge goes last, unless it is there
 abbrev pub put : List EdgeKey → EdgeKey → List EdgeKey

@@ -1,8 +1,7 @@
 -- Equal keys are the same, and how a set of keys grows by a key.
 use Rattle.std.proofs.Common.{◌≡◌, ◌<◌, ◌+◌, ℕ, Bool, true, false, cond, ◌||◌, List, [], ◌∷◌, length, take, get_or, refl, sym, ap, ◌∙◌, rules}
 use Rattle.std.specs.List.{list_any}
-use Rattle.std.specs.Cmp.{IsEquivalence, nat_eq_equiv, and_equiv, on_equiv}
-use Rattle.std.specs.Cmp.Lexicographic.{pointwise, lists_equiv}
+use Rattle.std.specs.Cmp.Lexicographic.{pointwise}
 use Rattle.std.proofs.lemmas.Bool.{and_parts, eqb-true}
 use Rattle.std.proofs.lemmas.List.Folds.{list_any_more}
 use Rattle.wb_diagram.specs.declared.keys.AnyKey.{AnyKey}
@@ -11,14 +10,10 @@ use Rattle.wb_diagram.specs.declared.keys.EdgeKey.{EdgeKey}
 use Rattle.wb_diagram.specs.declared.keys.Key.{Key}
 use Rattle.wb_diagram.specs.declared.keys.Pair.{Pair}
 use Rattle.wb_diagram.specs.contracts.keys.AnyKeyPartialEq.TheImpl.{eq-value}
-use Rattle.wb_answers.specs.SameKeys.{same_key, same_pair}
-use Rattle.wb_answers.proofs.SameKeyLaws.{key_symm, pair_equiv}
-use Rattle.wb_looks.specs.Visible.{same_any, same_edge}
+use Rattle.wb_answers.specs.SameKeys.{same_key, same_pair, same_any}
+use Rattle.wb_answers.proofs.SameKeyLaws.{key_symm, key_equiv, edge_equiv}
 
 -- ---- keys of elements
-
-pub key_equiv : IsEquivalence same_key
-key_equiv = on_equiv (λ (k : Key). k.pairs) (lists_equiv pair_equiv)
 
 pair_is : (a b : Pair) → same_pair a b ≡ true → a ≡ b
 pair_is a b same =
@@ -39,12 +34,6 @@ pub key_is : (a b : Key) → same_key a b ≡ true → a ≡ b
 key_is a b same = ap (λ (pairs : List Pair). record { pairs = pairs }) (pairs_are a.pairs b.pairs same)
 
 -- ---- keys of either sort
-
-edge_equiv : IsEquivalence same_edge
-edge_equiv =
-    and_equiv
-    (and_equiv (and_equiv (on_equiv (λ (k : EdgeKey). k.mapping) nat_eq_equiv) (on_equiv (λ (k : EdgeKey). k.object) nat_eq_equiv)) (on_equiv (λ (k : EdgeKey). k.source) key_equiv))
-    (on_equiv (λ (k : EdgeKey). k.target) key_equiv)
 
 pub any_symm : (x y : AnyKey) → same_any x y ≡ same_any y x
 any_symm (Node a) (Node b) = key_symm a b
