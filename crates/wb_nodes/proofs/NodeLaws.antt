@@ -1,12 +1,12 @@
 -- What is true of the declared elements, and of the units that are asked for them.
-use Rattle.std.proofs.Common.{◌≡◌, ◌≤◌, ◌<◌, ℕ, zero, suc, Bool, true, false, List, [], ◌∷◌, ◌++◌, length, take, map, filter, Option, Some, None, refl, sym, ap, subst, ◌∙◌, arith, inl, inr, ⊎_elim, if◌then◌else◌, get_or, ◌⊎◌, length-append}
-use Rattle.std.specs.Prelude.{All, Contains, IsSome, is_some}
+use Rattle.std.proofs.Common.{◌≡◌, ◌-◌, ◌≤◌, ◌<◌, ℕ, zero, suc, Bool, true, false, List, [], ◌∷◌, ◌++◌, length, filter, Option, Some, None, refl, sym, ap, subst, ◌∙◌, arith, inl, inr, ⊎_elim, if◌then◌else◌, get_or, ◌⊎◌, length-append}
+use Rattle.std.specs.Prelude.{All, Contains, IsSome, nat_le, option_map}
 use Rattle.std.specs.List.{flat_map, list_any}
 use Rattle.std.specs.Option.{option_map_or}
 use Rattle.std.specs.Cmp.Lexicographic.{lists_equiv}
 use Rattle.std.proofs.Math.Seq.{get_or-append_seam}
 use Rattle.std.proofs.lemmas.Bool.{leb-false}
-use Rattle.std.proofs.lemmas.List.{take_at}
+use Rattle.std.proofs.lemmas.List.{length-take-le, take_at}
 use Rattle.std.proofs.lemmas.List.Elements.{All-append, All-cons, All-filter, All-head, All-map, All-nil, All-tail, All-weaker, Contains-append_left, Contains-append_right, filter_passes}
 use Rattle.std.proofs.lemmas.List.Folds.{list_any_at}
 use Rattle.std.proofs.lemmas.Option.{slice_get-get_or}
@@ -20,7 +20,7 @@ use Rattle.wb_diagram.specs.declared.keys.Pair.{Pair}
 use Rattle.wb_diagram.specs.declared.units.Unit.{Unit as Place}
 use Rattle.wb_diagram.specs.declared.units.Unit.TheVariants.{Precondition}
 use Rattle.wb_spec_check.specs.Checked.{Specification}
-use Rattle.wb_spec_check.specs.Units.{Expression, candidates_of_form, expression_of, last_pair, mapping_of, mapping_of_key, precondition_of}
+use Rattle.wb_spec_check.specs.Units.{candidates_of_form, expression_of, last_pair, mapping_of, mapping_of_key, precondition_of}
 use Rattle.wb_spec_check.specs.declared.checked_mappings.CheckedForm.{CheckedForm}
 use Rattle.wb_spec_check.specs.declared.checked_mappings.CheckedForm.TheVariants.{Node as NodeForm, Edge as EdgeForm}
 use Rattle.wb_spec_check.specs.declared.checked_mappings.CheckedMapping.{CheckedMapping}
@@ -29,7 +29,7 @@ use Rattle.wb_answers.specs.Environments.{front}
 use Rattle.wb_answers.specs.SameKeys.{among, same_key, same_pair}
 use Rattle.wb_answers.specs.Seen.{Told}
 use Rattle.wb_answers.proofs.SameKeyLaws.{pair_equiv}
-use Rattle.wb_nodes.specs.Nodes.{Scene, below, candidates_at, candidates_by, child, child_mappings, children, children_by, children_with, fits, fitting, is_conditional, is_declared, node_in, node_mapping, node_units, nodes, pair_of, parent_of, precondition_at, units_by, units_under, units_with}
+use Rattle.wb_nodes.specs.Nodes.{Scene, below, candidates_at, candidates_by, child, child_mappings, children, children_by, children_with, fits, fitting, is_conditional, is_declared, node_in, node_mapping, node_units, nodes, pair_of, precondition_at, units_by, units_under, units_with}
 use Rattle.wb_nodes.proofs.Walks.{uncut}
 
 -- ---- lists of lists
@@ -62,7 +62,7 @@ fitting_are s path n node objects =
     can_stand o is = record {
       object = o;
       is = refl;
-      shallow = leb-false 32 (length path) (uncut (conforms_to s.model node.objects.domain o) (list_any (same_pair (pair_of n o)) path) _ is);
+      shallow = leb-false 32 (length path) (uncut (conforms_to s.model node.objects.domain o) (list_any (same_pair (pair_of n o)) path) (nat_le 32 (length path)) is);
     }
 
 candidates_are : (s : Scene) (told : Told) (path : List Pair) (n : ℕ) (node : CheckedNode) → All (IsCandidate path n) (candidates_by s told path n node)
@@ -122,7 +122,7 @@ last_is path pair =
     ∙ ap Some (ap (λ i. get_or (path ++ pair ∷ []) i pair) (omega (arith, long)) ∙ get_or-append_seam path pair [] pair)
 
 numbered : (path : List Pair) (n : ℕ) (key : Key) → IsCandidate path n key → mapping_of_key (Node key) ≡ Some n
-numbered path n key c = ap (λ (pairs : List Pair). mapping_of_key (Node (record { pairs = pairs }))) c.is ∙ ap (λ (found : Option Pair). found >>= (λ (pair : Pair). Some pair.mapping)) (last_is path (pair_of n c.object))
+numbered path n key c = ap (λ (pairs : List Pair). mapping_of_key (Node (record { pairs = pairs }))) c.is ∙ ap (option_map (λ (pair : Pair). pair.mapping)) (last_is path (pair_of n c.object))
 
 pub record Mapped (spec : Specification) (n : ℕ) : Type 0 where
   pub mapping : CheckedMapping
@@ -137,6 +137,7 @@ mapped spec n node is = by (mapping_of spec n) refl is
     with_form : (mapping : CheckedMapping) (form : CheckedForm) → mapping_of spec n ≡ Some mapping → mapping.form ≡ form → node_in form ≡ Some node → Mapped spec n
     with_form mapping (NodeForm it) found same is = record { mapping = mapping; node = it; is = found; form = same }
     with_form mapping (EdgeForm it) found same is = cc
+
     by : (found : Option CheckedMapping) → mapping_of spec n ≡ found → (found >>= (λ (mapping : CheckedMapping). node_in mapping.form)) ≡ Some node → Mapped spec n
     by None found is = cc
     by (Some mapping) found is = with_form mapping mapping.form found refl is
@@ -168,7 +169,7 @@ directly_under path n key c =
     ap front c.is ∙ take_at path (pair_of n c.object ∷ []) _ (omega (arith, long))
 
 contains_first : (key : Key) (keys : List Key) → Contains (key ∷ keys) key
-contains_first key keys = (0, (omega arith, refl))
+contains_first key keys = (0, omega arith, refl)
 
 module _ (s : Scene) (told : Told) (n : ℕ) (each : (path : List Pair) → All (StandsIn (below n s told path) path) (below n s told path)) where
   abbrev subtree : Key → List Key
@@ -209,9 +210,11 @@ pub parents_are_nodes : (s : Scene) (told : Told) → All (λ (key : Key). 2 ≤
 parents_are_nodes s told = All-weaker (StandsIn (nodes s told) []) (λ (key : Key). 2 ≤ length key.pairs → Contains (nodes s told) (parent key)) deep (nodes s told) (stand_in_nodes s told)
   where
     longer : (pairs : List Pair) → 2 ≤ length pairs → front pairs ≡ [] → ⊥
-    longer [] long is = absurd (omega (arith, long))
-    longer (a ∷ []) long is = absurd (omega (arith, long))
-    longer (a ∷ b ∷ pairs) long is = cc
+    longer pairs long is =
+        let none = ap length is in
+        let less = length-take-le (length pairs - 1) pairs (omega arith) in
+        absurd (omega (arith, long, none, less))
+
     deep : (key : Key) → StandsIn (nodes s told) [] key → 2 ≤ length key.pairs → Contains (nodes s told) (parent key)
     deep key stands long = ⊎_elim (λ is. absurd (longer key.pairs long is)) (λ within. within) stands
 
@@ -259,6 +262,7 @@ module _ (P : Place → Type 0) (s : Scene) (told : Told) (path : List Pair) whe
           All-cons P (candidates_at path n) (flat_map (precondition_at s n) (candidates_by s told path n node)) (of_path n (mapped s.spec n node is))
           (all_flat P (precondition_at s n) (candidates_by s told path n node)
           (All-weaker (IsCandidate path n) (λ (key : Key). All P (precondition_at s n key)) (if_conditional n (of_key n)) (candidates_by s told path n node) (candidates_are s told path n node)))
+
       of_number : (n : ℕ) → All P (units_by s told path n)
       of_number n = by n (node_mapping s.spec n) refl
 
