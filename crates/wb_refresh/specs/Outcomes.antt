@@ -15,7 +15,7 @@ use Rattle.wb_spec_check.specs.Units.{Expression, expression_of}
 use Rattle.wb_answers.specs.Environments.{environment_of}
 use Rattle.wb_answers.specs.Seen.{Told}
 use Rattle.wb_answers.specs.declared.rows.Row.{Row}
-use Rattle.wb_refresh.specs.Grounds.{Ground}
+use Rattle.wb_refresh.specs.Subjects.{Setting}
 
 -- what an evaluator gives: the end of the run of an expression in an environment over a model
 abbrev pub Gives : Type 0
@@ -33,21 +33,21 @@ ended ran = record { answer = answer_by ran.gave; reads = ran.reads }
 abbrev pub nothing : Outcome
 nothing = record { answer = a.Value Null; reads = [] }
 
-abbrev pub outcome_by : Gives → Ground → Unit → Expression → Outcome
-outcome_by gives g unit e = ended (gives e (environment_of g.root unit e.1) g.model)
+abbrev pub outcome_by : Gives → Setting → Unit → Expression → Outcome
+outcome_by gives s unit e = ended (gives e (environment_of s.root unit e.1) s.model)
 
 -- the outcome of a unit: that of its expression in its environment; a unit that the viewpoint has no expression for gives nothing
-unfoldable pub outcome : Gives → Ground → Unit → Outcome
-outcome gives g unit = option_map_or (outcome_by gives g unit) (expression_of g.spec unit) nothing
+unfoldable pub outcome : Gives → Setting → Unit → Outcome
+outcome gives s unit = option_map_or (outcome_by gives s unit) (expression_of s.spec unit) nothing
 
 -- the answer of each unit
-abbrev pub told : Gives → Ground → Told
-told gives g unit = (outcome gives g unit).answer
+abbrev pub told : Gives → Setting → Told
+told gives s unit = (outcome gives s unit).answer
 
 -- a unit with its outcome
-abbrev pub row : Gives → Ground → Unit → Row
-row gives g unit = record { unit = unit; outcome = outcome gives g unit }
+abbrev pub row : Gives → Setting → Unit → Row
+row gives s unit = record { unit = unit; outcome = outcome gives s unit }
 
 -- how often a unit's expression is evaluated: once, if it has one
-abbrev pub cost : Ground → Unit → ℕ
-cost g unit = if is_some (expression_of g.spec unit) then 1 else 0
+abbrev pub cost : Setting → Unit → ℕ
+cost s unit = if is_some (expression_of s.spec unit) then 1 else 0

@@ -1,23 +1,16 @@
 -- When two units are the same.
 use Rattle.std.specs.Prelude.{Bool, true, false, nat_eq, ◌&&◌, Option, Some, None}
-use Rattle.wb_diagram.specs.declared.keys.AnyKey.{AnyKey}
-use Rattle.wb_diagram.specs.declared.keys.AnyKey.TheVariants.{Node, Edge}
 use Rattle.wb_diagram.specs.declared.keys.Key.{Key}
 use Rattle.wb_diagram.specs.declared.units.Unit.{Unit}
 use Rattle.wb_diagram.specs.declared.units.Unit.TheVariants.{Candidates, Precondition, EdgeCandidates, EdgePrecondition, Source, Target, Style, Label, Filter}
 use Rattle.wb_answers.specs.SameKeys.{same_pair, same_key}
-use Rattle.wb_edges.specs.Edges.{same_edge}
+use Rattle.wb_looks.specs.Visible.{same_any}
 
 -- the same element, or both the diagram
 abbrev pub same_parent : Option Key → Option Key → Bool
 same_parent None None = true
 same_parent (Some a) (Some b) = same_key a b
 same_parent _ _ = false
-
-abbrev pub same_any : AnyKey → AnyKey → Bool
-same_any (Node a) (Node b) = same_key a b
-same_any (Edge a) (Edge b) = same_edge a b
-same_any _ _ = false
 
 abbrev pub same_unit : Unit → Unit → Bool
 same_unit (Candidates m a) (Candidates n b) = nat_eq m n && same_parent a b

@@ -1,13 +1,13 @@
-// A library with one function.
+//! The diagram of a model, declared from scratch: every unit is evaluated once, and its outcome kept.
 #![tactic(auto)]
 
-ghost use Rattle.std.specs.Prelude.{◌≡◌};
-ghost use Rattle.wb_refresh.specs.Echo.{echo_of};
+mod declaring;
+mod evaluating;
+mod faults;
+mod index;
+mod opening;
+mod refresh;
+mod table;
 
-// The `ensures` clause is the contract: what `echo` returns is `echo_of` of its argument, a definition
-// in `specs/Echo.antt`, which a caller's clause can cite too.
-pub fn echo(x: usize) -> usize
-    ensures { result ≡ echo_of x }
-{
-    x
-}
+pub use opening::open;
+pub use refresh::Refresh;
