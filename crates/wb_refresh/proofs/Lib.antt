@@ -1,0 +1,5 @@
+pub mod SameUnitLaws
+pub mod Asking
+pub mod Counting
+pub mod Ended
+pub mod GoingOn
