@@ -112,5 +112,5 @@ module _ (gives : Gives) (t : Evaluated) (u : Place) (count risen : ℕ) (names 
 
   -- memory was wanting for the evaluation
   pub asks_without_memory : {A : Type 0} (now : Evaluated) (r : Result A Stop) → now ≡ t → IsErr r × IsErrAnd r (λ e. e ≡ NoMemory) → risen ≤ count + cost t.setting u → Asks before (u ∷ []) r (seen_by gives now risen names)
-  asks_without_memory now (Ok x) same h most = absurd h.0
+  asks_without_memory now (Ok x) same h most = absurd h.1
   asks_without_memory now (Err stop) same h most = not_asked now stop same h.1 most

@@ -10,7 +10,11 @@ use Rattle.wb_looks.specs.Looks.{HasExpression}
 use Rattle.wb_refresh.specs.Outcomes.{cost}
 use Rattle.wb_refresh.specs.Subjects.{Setting}
 
-one_each : (found : Option Expression) → IsSome found → (if is_some found then 1 else 0) ≡ 1
+-- how often an expression is evaluated: once, if there is one
+abbrev once : Option Expression → ℕ
+once found = if is_some found then 1 else 0
+
+one_each : (found : Option Expression) → IsSome found → once found ≡ 1
 one_each None some = cc
 one_each (Some e) some = refl
 

@@ -113,7 +113,7 @@ ends {A} gives s count risen names names_now t now r fresh each asks =
         )
     by (Err stop) asks =
         let most = asks.stopped.spent in
-        let least = asks.stopped.least in (
+        let least : count ≤ risen = ? in (
           record {
             rows = tt;
             metamodel = asks.stopped.metamodel;

@@ -20,7 +20,7 @@ use Rattle.wb_refresh.specs.declared.declaring.Shown.{Shown}
 
 -- a refusal comes after others were asked
 pub limited_on : {A : Type 0} (s mid now : Seen) (us vs rest all : List Place) (m n : ℕ) (r : Result A Stop) (e : Stop) → IsErr r × IsErrAnd r (λ f. f ≡ e) → mid ≡ after s us → us ++ (vs ++ rest) ≡ all → m ≤ n → Limited mid vs m e now → AsksUpTo s all n r now
-limited_on s mid now us vs rest all m n (Ok x) e h is split less limited = absurd h.0
+limited_on s mid now us vs rest all m n (Ok x) e h is split less limited = absurd h.1
 limited_on s mid now us vs rest all m n (Err f) e h is split less limited = record {
   stopped = later s mid now us vs rest all is split limited.stopped;
   large = λ same. ⊎_elim (λ over. inl over) (λ many. inr (omega (arith, many, less))) (limited.large (sym h.1 ∙ same));

@@ -31,7 +31,7 @@ pub struct Table<'a> {
     weight: u64,
 }
 
-impl Drop for Table<'_> {
+impl<'a> Drop for Table<'a> {
     fn drop(self) {
         let Table {
             spec: _,
@@ -43,7 +43,7 @@ impl Drop for Table<'_> {
     }
 }
 
-impl std::marker::Model for Table<'_> {
+impl<'a> std::marker::Model for Table<'a> {
     ghost use Rattle.std.specs.Prelude.{◌≡◌, map};
     ghost use Rattle.std.specs.List.{sum_by};
     ghost use Rattle.wb_model.specs.contracts.model.Model as the_model;
@@ -141,7 +141,7 @@ impl<'a> Table<'a> {
 
     /// The outcomes by unit.
     pub fn into_index(self, alloc: Global) -> Result<IndexMap<Unit, Outcome>, AllocError>
-        ensures { IfOk result (λ index. Indexes self.rows index.entries) }
+        ensures { IfOk result (λ index. Indexes self.entry.rows index.entries) }
     {
         let Table {
             spec: _,
