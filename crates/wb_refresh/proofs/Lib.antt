@@ -1,5 +1,1 @@
 pub mod SameUnitLaws
-pub mod Asking
-pub mod Counting
-pub mod Ended
-pub mod GoingOn

@@ -7,8 +7,8 @@ use Rattle.wb_answers.specs.Seen.{Told}
 use Rattle.wb_looks.specs.Filters.{filtered}
 use Rattle.wb_nodes.specs.Nodes.{Scene, nodes}
 use Rattle.wb_refresh.specs.Diagrams.{edges_of, keys_of, looks_at}
-use Rattle.wb_refresh.specs.declared.declaring.Declared.{Declared}
-use Rattle.wb_refresh.specs.declared.declaring.Shown.{Shown}
+use Rattle.wb_refresh.specs.declared.declared.Declared.{Declared}
+use Rattle.wb_refresh.specs.declared.declared.Shown.{Shown}
 
 -- how these keys look, and what filters hide
 pub record AreShown (spec : Specification) (mm : Metamodel) (told : Told) (keys : List AnyKey) (shown : Shown) : Type 0 where

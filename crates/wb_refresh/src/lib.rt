@@ -1,13 +1,9 @@
 //! The diagram of a model, declared from scratch: every unit is evaluated once, and its outcome kept.
 #![tactic(auto)]
 
-mod declaring;
-mod evaluating;
-mod faults;
-mod index;
+mod declared;
 mod opening;
 mod refresh;
-mod table;
 
 pub use opening::open;
 pub use refresh::Refresh;

@@ -18,20 +18,20 @@ use wb_spec_check::CheckedViewpoint;
 /// `TooLarge` comes where there are more than 100,000 units, or elements and edges together, or where all outcomes
 /// together weigh more than 2,000,000.
 pub fn open<E: Evaluator>(
-    _alloc: Global,
-    _spec: &CheckedViewpoint,
-    _model: &Model,
-    _root: ObjectId,
-    _shown: &[Key],
-    _steps: &mut E,
+    alloc: Global,
+    spec: &CheckedViewpoint,
+    model: &Model,
+    root: ObjectId,
+    shown: &[Key],
+    steps: &mut E,
 ) -> Result<Refresh<E>, Stop>
-    requires checked { IsCheckedBy _model.now.metamodel _spec.now }
-    ensures opened { IfOk result (IsOpened E.outcome_by (subject _spec.now _model.now _root _shown.now)) }
-    ensures few { OnOk result (is_too_large E.outcome_by (subject _spec.now _model.now _root _shown.now) ≡ false) }
-    ensures large { IfErr result (λ stop. stop ≡ TooLarge → is_too_large E.outcome_by (subject _spec.now _model.now _root _shown.now) ≡ true) }
-    ensures counted { OnOk result (E.count _steps.new ≡ E.count _steps.old + length (all_units E.outcome_by (subject _spec.now _model.now _root _shown.now))) }
-    ensures most { E.count _steps.new ≤ E.count _steps.old + length (all_units E.outcome_by (subject _spec.now _model.now _root _shown.now)) }
-    ensures least { E.count _steps.old ≤ E.count _steps.new }
+    requires checked { IsCheckedBy model.now.metamodel spec.now }
+    ensures opened { IfOk result (IsOpened E.outcome_by (subject spec.now model.now root shown.now)) }
+    ensures few { OnOk result (is_too_large E.outcome_by (subject spec.now model.now root shown.now) ≡ false) }
+    ensures large { IfErr result (λ stop. stop ≡ TooLarge → is_too_large E.outcome_by (subject spec.now model.now root shown.now) ≡ true) }
+    ensures counted { OnOk result (E.count steps.new ≡ E.count steps.old + length (all_units E.outcome_by (subject spec.now model.now root shown.now))) }
+    ensures most { E.count steps.new ≤ E.count steps.old + length (all_units E.outcome_by (subject spec.now model.now root shown.now)) }
+    ensures least { E.count steps.old ≤ E.count steps.new }
 {
     Err(Stop::NoMemory)
 }

@@ -2,7 +2,7 @@ ghost use Rattle.std.specs.Prelude.{◌≡◌};
 ghost use Rattle.std.specs.Option.{option_copied};
 ghost use Rattle.wb_refresh.specs.Openings.{answer_in};
 
-use crate::declaring::Declared;
+use crate::declared::Declared;
 use indexmap::IndexMap;
 use std::marker::PhantomData;
 use wb_aql_eval::Outcome;
@@ -37,13 +37,13 @@ impl<E> std::marker::Model for Refresh<E> {
     ghost Value = { Kept };
 
     ghost view = { λ r. record {
-        nodes = r.declared.nodes;
-        edges = r.declared.edges;
-        looks = r.declared.shown.looks;
-        filtered = r.declared.shown.filtered;
-        problems = r.problems;
-        units = r.units;
-        outcomes = r.outcomes.entries;
+      nodes = r.declared.nodes;
+      edges = r.declared.edges;
+      looks = r.declared.shown.looks;
+      filtered = r.declared.shown.filtered;
+      problems = r.problems;
+      units = r.units;
+      outcomes = r.outcomes.entries;
     } };
 }
 
