@@ -7,8 +7,9 @@ use Rattle.std.proofs.lemmas.List.Folds.{list_any-append}
 use Rattle.std.proofs.lemmas.List.{take_more}
 use Rattle.wb_diagram.specs.declared.keys.Pair.{Pair}
 use Rattle.wb_diagram.specs.declared.keys.Key.{Key}
+use Rattle.wb_diagram.specs.declared.keys.EdgeKey.{EdgeKey}
 use Rattle.wb_diagram.specs.contracts.keys.KeyPartialEq.TheImpl.{eq-value}
-use Rattle.wb_answers.specs.SameKeys.{same_pair, same_key}
+use Rattle.wb_answers.specs.SameKeys.{same_pair, same_key, same_edge}
 
 pub same_keys : (x y : Key) → eq-value.it x y ≡ same_key x y
 same_keys x y = search rules
@@ -16,8 +17,17 @@ same_keys x y = search rules
 pub pair_equiv : IsEquivalence same_pair
 pair_equiv = and_equiv (on_equiv (λ (p : Pair). p.mapping) nat_eq_equiv) (on_equiv (λ (p : Pair). p.object) nat_eq_equiv)
 
+pub key_equiv : IsEquivalence same_key
+key_equiv = on_equiv (λ (k : Key). k.pairs) (lists_equiv pair_equiv)
+
 pub key_symm : (x y : Key) → same_key x y ≡ same_key y x
-key_symm x y = (lists_equiv pair_equiv).symm x.pairs y.pairs
+key_symm x y = key_equiv.symm x y
+
+pub edge_equiv : IsEquivalence same_edge
+edge_equiv =
+    and_equiv (on_equiv (λ (e : EdgeKey). e.mapping) nat_eq_equiv)
+    (and_equiv (on_equiv (λ (e : EdgeKey). e.object) nat_eq_equiv)
+    (and_equiv (on_equiv (λ (e : EdgeKey). e.source) key_equiv) (on_equiv (λ (e : EdgeKey). e.target) key_equiv)))
 
 pub any_same : (q : Key) (ks : List Key) → list_any (eq-value.it q) ks ≡ list_any (same_key q) ks
 any_same q ks = ap (λ (f : Key → Bool). list_any f ks) (λ i y. same_keys q y i)

@@ -23,7 +23,7 @@ abbrev pub AreInner : List Pair → List Key → Type 0
 AreInner path [] = Unit {0}
 AreInner path (key ∷ keys) = IsInner path key × AreInner path keys
 
-uncut : (a b c : Bool) → (a && not (b || c)) ≡ true → c ≡ false
+pub uncut : (a b c : Bool) → (a && not (b || c)) ≡ true → c ≡ false
 uncut true true c h = cc
 uncut true false true h = cc
 uncut true false false h = refl

@@ -12,7 +12,6 @@ use std::alloc::Global;
 use wb_answers::{Answers, Stop};
 use wb_base::List;
 use wb_diagram::Key;
-use wb_metamodel::ObjectId;
 use wb_model::Model;
 use wb_spec_check::CheckedViewpoint;
 
@@ -21,12 +20,11 @@ const LIMIT: usize = 100_000;
 
 /// The keys of the declared elements, parents before their children; the units that declare them are asked, parent by parent.
 ///
-/// `root` is the root element that `answers` is of. `TooLarge` comes also where more than 100,000 elements are declared.
+/// `TooLarge` comes also where more than 100,000 elements are declared.
 pub fn declare_nodes<A: Answers>(
     alloc: Global,
     spec: &CheckedViewpoint,
     model: &Model,
-    _root: ObjectId,
     shown: &[Key],
     answers: &mut A,
 ) -> Result<List<Key>, Stop>
