@@ -12,7 +12,7 @@ use Rattle.wb_answers.proofs.SameKeyLaws.{pair_equiv}
 use Rattle.wb_edges.specs.Edges.{each_once, same_edge}
 use Rattle.wb_edges.specs.Puts.{put_all}
 
-key_equiv : IsEquivalence same_key
+pub key_equiv : IsEquivalence same_key
 key_equiv = on_equiv (λ (key : Key). key.pairs) (lists_equiv pair_equiv)
 
 edge_equiv : IsEquivalence same_edge

@@ -7,7 +7,7 @@ ghost use Rattle.wb_edges.specs.Grounds.{HasClass, HasClassOfCandidates, scene};
 
 use crate::ends::{is_of, own_pair};
 use crate::found::objects_at;
-use crate::grounds::{Grounds, is_of_class};
+use crate::grounds::Grounds;
 use indexmap::IndexSet;
 use std::alloc::{AllocError, Global};
 use wb_answers::{Answers, Stop};
@@ -66,7 +66,7 @@ fn of_class(
 {
     let mut kept = Vec::new(grounds.alloc);
     for object in objects {
-        if is_of_class(grounds.model, class, *object) {
+        if grounds.model.is_of_class(*object, class) {
             kept.push(*object)?;
         }
     }
