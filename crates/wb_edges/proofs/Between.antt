@@ -1,5 +1,5 @@
 -- Three loops over gathered targets are the four nested loops.
-use Rattle.std.proofs.Common.{◌≡◌, ℕ, Bool, List, [], ◌∷◌, ◌++◌, map, filter, Option, refl, sym, ap, ◌∙◌, if◌then◌else◌}
+use Rattle.std.proofs.Common.{◌≡◌, ℕ, Bool, List, [], ◌∷◌, ◌++◌, map, refl, sym, ap, ◌∙◌, if◌then◌else◌}
 use Rattle.std.specs.List.{flat_map}
 use Rattle.std.proofs.lemmas.List.{map-append}
 use Rattle.std.proofs.lemmas.List.Concat.{flat_map_single}
@@ -8,7 +8,7 @@ use Rattle.wb_diagram.specs.declared.keys.Key.{Key}
 use Rattle.wb_diagram.specs.declared.keys.Pair.{Pair}
 use Rattle.wb_spec_check.specs.declared.checked_mappings.CheckedEdge.{CheckedEdge}
 use Rattle.wb_answers.specs.Seen.{Told}
-use Rattle.wb_edges.specs.Edges.{Scene, edge_between, edges_at, edges_between, elements_for, elements_of, finders, found_sources, found_targets, passes, precondition_at, units_at}
+use Rattle.wb_edges.specs.Edges.{Scene, edge_between, edges_at, edges_between, elements_for, finders, found_sources, found_targets, passes, precondition_at, units_at}
 use Rattle.wb_edges.specs.Grounds.{AreEnds, elements_in}
 use Rattle.wb_edges.specs.Puts.{edges_by_ends, edges_from}
 use Rattle.wb_edges.specs.declared.ends.Ends.{Ends}

@@ -1,8 +1,8 @@
 -- What is true of every declared edge, and of every unit that is asked for one.
-use Rattle.std.proofs.Common.{◌≡◌, ◌||◌, ℕ, Bool, true, false, not, cond, List, [], ◌∷◌, ◌++◌, length, map, filter, Option, Some, None, get_or, refl, sym, ap, subst, ◌∙◌, if◌then◌else◌}
+use Rattle.std.proofs.Common.{◌≡◌, ℕ, Bool, true, false, not, List, [], ◌∷◌, length, map, Option, Some, None, get_or, refl, ap, subst, if◌then◌else◌}
 use Rattle.std.specs.Option.{option_map_or}
 use Rattle.std.specs.Prelude.{⊤, All, IsSome, is_some, option_map}
-use Rattle.std.specs.List.{flat_map, list_any}
+use Rattle.std.specs.List.{flat_map}
 use Rattle.std.proofs.lemmas.List.Elements.{All-append, All-cons, All-filter, All-map, All-nil, All-head, All-tail, All-weaker}
 use Rattle.std.proofs.lemmas.List.Folds.{list_any_at}
 use Rattle.wb_base.specs.Lists.{numbers}
@@ -191,6 +191,7 @@ of_mapping spec n edge part is some = by (mapping_of spec n) is
     in_form : (form : CheckedForm) → edge_in form ≡ Some edge → IsSome (part form)
     in_form (NodeForm node) is = cc
     in_form (EdgeForm it) is = let same : edge ≡ it = cc in subst (λ (e : CheckedEdge). IsSome (part (EdgeForm e))) same some
+
     by : (found : Option CheckedMapping) → (found >>= (λ (mapping : CheckedMapping). edge_in mapping.form)) ≡ Some edge → IsSome (found >>= (λ (mapping : CheckedMapping). part mapping.form))
     by None is = cc
     by (Some mapping) is = in_form mapping.form is

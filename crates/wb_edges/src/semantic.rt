@@ -48,11 +48,7 @@ fn candidates_by<A: Answers>(
 {
     let unit = Unit::EdgeCandidates { mapping: number };
     let objects = objects_at(grounds.alloc, &unit, answers)?;
-    Ok(of_class(
-        grounds,
-        source.objects.domain,
-        objects.as_slice(),
-    )?)
+    Ok(of_class(grounds, source.objects.domain, objects.as_slice())?)
 }
 
 // Those of the objects that are live and of the class.
@@ -74,11 +70,7 @@ fn of_class(
 }
 
 // The objects of the declared elements of these mappings, each once.
-fn objects_by(
-    alloc: Global,
-    mappings: &[u32],
-    nodes: &[Key],
-) -> Result<Vec<ObjectId>, AllocError>
+fn objects_by(alloc: Global, mappings: &[u32], nodes: &[Key]) -> Result<Vec<ObjectId>, AllocError>
     ensures { IfOk result (λ objects. objects.items ≡ objects_by (filter (is_of mappings.now) nodes.now)) }
 {
     let mut objects = IndexSet::new(alloc);

@@ -1,4 +1,4 @@
-use Rattle.std.proofs.Common.{◌≡◌, ◌∙◌, ◌∷◌, ◌++◌, ℕ, List, [], ap, refl, subst}
+use Rattle.std.proofs.Common.{◌∙◌, ◌∷◌, ℕ, List, [], ap, refl, subst}
 use Rattle.wb_diagram.specs.declared.keys.EdgeKey.{EdgeKey}
 use Rattle.wb_diagram.specs.declared.units.Unit.TheVariants.{Target}
 use Rattle.wb_answers.specs.Seen.{Told}
