@@ -22,10 +22,10 @@ use Rattle.wb_spec_check.specs.declared.checked_mappings.CheckedForm.{CheckedFor
 use Rattle.wb_spec_check.specs.declared.checked_mappings.CheckedForm.TheVariants.{Node as NodeForm, Edge as EdgeForm}
 use Rattle.wb_spec_check.specs.declared.checked_mappings.CheckedMapping.{CheckedMapping}
 use Rattle.wb_spec_check.specs.declared.checked_mappings.CheckedSource.{CheckedSource}
-use Rattle.wb_answers.specs.SameKeys.{among, same_key}
+use Rattle.wb_answers.specs.SameKeys.{among, same_edge, same_key}
 use Rattle.wb_answers.specs.Seen.{Told}
-use Rattle.wb_edges.proofs.Once.{key_equiv}
-use Rattle.wb_edges.specs.Edges.{Scene, candidates_at, each_once, edge_between, edge_in, edge_mapping, edge_units, edges, edges_at, edges_between, edges_by, edges_with, elements_for, elements_of, finders, found_sources, found_targets, is_conditional, is_element_based, is_of, pair_of, passes, precondition_at, represents, same_edge, semantic, source_finder, units_at, units_by, units_with}
+use Rattle.wb_answers.proofs.SameKeyLaws.{key_equiv}
+use Rattle.wb_edges.specs.Edges.{Scene, candidates_at, each_once, edge_between, edge_in, edge_mapping, edge_units, edges, edges_at, edges_between, edges_by, edges_with, elements_for, elements_of, finders, found_sources, found_targets, is_conditional, is_element_based, is_of, pair_of, passes, precondition_at, represents, semantic, source_finder, units_at, units_by, units_with}
 
 -- ---- lists
 
