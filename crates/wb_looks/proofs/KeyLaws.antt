@@ -1,0 +1,90 @@
+-- Equal keys are the same, and how a set of keys grows by a key.
+use Rattle.std.proofs.Common.{◌≡◌, ◌<◌, ◌+◌, ℕ, Bool, true, false, cond, ◌||◌, List, [], ◌∷◌, length, take, get_or, refl, sym, ap, ◌∙◌, rules}
+use Rattle.std.specs.List.{list_any}
+use Rattle.std.specs.Cmp.{IsEquivalence, nat_eq_equiv, and_equiv, on_equiv}
+use Rattle.std.specs.Cmp.Lexicographic.{pointwise, lists_equiv}
+use Rattle.std.proofs.lemmas.Bool.{and_parts, eqb-true}
+use Rattle.std.proofs.lemmas.List.Folds.{list_any_more}
+use Rattle.wb_diagram.specs.declared.keys.AnyKey.{AnyKey}
+use Rattle.wb_diagram.specs.declared.keys.AnyKey.TheVariants.{Node, Edge}
+use Rattle.wb_diagram.specs.declared.keys.EdgeKey.{EdgeKey}
+use Rattle.wb_diagram.specs.declared.keys.Key.{Key}
+use Rattle.wb_diagram.specs.declared.keys.Pair.{Pair}
+use Rattle.wb_diagram.specs.contracts.keys.AnyKeyPartialEq.TheImpl.{eq-value}
+use Rattle.wb_answers.specs.SameKeys.{same_key, same_pair}
+use Rattle.wb_answers.proofs.SameKeyLaws.{key_symm, pair_equiv}
+use Rattle.wb_looks.specs.Visible.{same_any, same_edge}
+
+-- ---- keys of elements
+
+pub key_equiv : IsEquivalence same_key
+key_equiv = on_equiv (λ (k : Key). k.pairs) (lists_equiv pair_equiv)
+
+pair_is : (a b : Pair) → same_pair a b ≡ true → a ≡ b
+pair_is a b same =
+    let parts = and_parts _ _ same in
+    let mapping = eqb-true a.mapping b.mapping parts.0 in
+    let object = eqb-true a.object b.object parts.1 in
+    ap (λ (m : ℕ). record { mapping = m; object = a.object }) mapping ∙ ap (λ (o : ℕ). record { mapping = b.mapping; object = o }) object
+
+pairs_are : (xs ys : List Pair) → pointwise same_pair xs ys ≡ true → xs ≡ ys
+pairs_are [] [] same = refl
+pairs_are [] (y ∷ ys) same = cc
+pairs_are (x ∷ xs) [] same = cc
+pairs_are (x ∷ xs) (y ∷ ys) same =
+    let parts = and_parts (same_pair x y) (pointwise same_pair xs ys) same in
+    ap (λ (p : Pair). p ∷ xs) (pair_is x y parts.0) ∙ ap (λ (ps : List Pair). y ∷ ps) (pairs_are xs ys parts.1)
+
+pub key_is : (a b : Key) → same_key a b ≡ true → a ≡ b
+key_is a b same = ap (λ (pairs : List Pair). record { pairs = pairs }) (pairs_are a.pairs b.pairs same)
+
+-- ---- keys of either sort
+
+edge_equiv : IsEquivalence same_edge
+edge_equiv =
+    and_equiv
+    (and_equiv (and_equiv (on_equiv (λ (k : EdgeKey). k.mapping) nat_eq_equiv) (on_equiv (λ (k : EdgeKey). k.object) nat_eq_equiv)) (on_equiv (λ (k : EdgeKey). k.source) key_equiv))
+    (on_equiv (λ (k : EdgeKey). k.target) key_equiv)
+
+pub any_symm : (x y : AnyKey) → same_any x y ≡ same_any y x
+any_symm (Node a) (Node b) = key_symm a b
+any_symm (Node a) (Edge b) = refl
+any_symm (Edge a) (Node b) = refl
+any_symm (Edge a) (Edge b) = edge_equiv.symm a b
+
+pub any_keys : (x y : AnyKey) → eq-value.it x y ≡ same_any x y
+any_keys (Node a) (Node b) = search rules
+any_keys (Node a) (Edge b) = search rules
+any_keys (Edge a) (Node b) = search rules
+any_keys (Edge a) (Edge b) = search rules
+
+-- ---- a set by one key more
+
+by_or : (b c : Bool) → cond b true c ≡ (c || b)
+by_or true true = refl
+by_or true false = refl
+by_or false true = refl
+by_or false false = refl
+
+-- where the set's equality is this one
+pub one_more : {K : Type 0} (equal same : K → K → Bool) → ((x y : K) → equal x y ≡ same x y) → ((x y : K) → same x y ≡ same y x) → (it key : K) (old new : List K)
+    → list_any (equal it) new ≡ cond (equal key it) true (list_any (equal it) old) → list_any (same it) new ≡ (list_any (same it) old || same it key)
+one_more {K} equal same is symm it key old new updated =
+    sym (any new) ∙ updated
+    ∙ ap (λ b. cond b true (list_any (equal it) old)) (is key it ∙ symm key it)
+    ∙ by_or (same it key) (list_any (equal it) old)
+    ∙ ap (λ b. b || same it key) (any old)
+  where
+    any : (keys : List K) → list_any (equal it) keys ≡ list_any (same it) keys
+    any keys = ap (λ (test : K → Bool). list_any test keys) (λ i y. is it y i)
+
+-- the set of marked keys by one mark more
+pub one_more_mark : (it key d : AnyKey) (old new marked : List AnyKey) (i : ℕ) → i < length marked → key ≡ get_or marked i d
+    → list_any (eq-value.it it) new ≡ cond (eq-value.it key it) true (list_any (eq-value.it it) old)
+    → list_any (same_any it) old ≡ list_any (same_any it) (take i marked)
+    → list_any (same_any it) new ≡ list_any (same_any it) (take (i + 1) marked)
+one_more_mark it key d old new marked i within at updated so_far =
+    one_more eq-value.it same_any any_keys any_symm it key old new updated
+    ∙ ap (λ b. b || same_any it key) so_far
+    ∙ ap (λ (k : AnyKey). list_any (same_any it) (take i marked) || same_any it k) at
+    ∙ sym (list_any_more (same_any it) marked i d within)
