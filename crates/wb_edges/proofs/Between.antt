@@ -1,6 +1,5 @@
 -- Three loops over gathered targets are the four nested loops.
-use Rattle.std.proofs.Common.{◌≡◌, ℕ, Bool, List, [], ◌∷◌, ◌++◌, map, filter, Option, refl, sym, ap, ◌∙◌, if◌then◌else◌}
-use Rattle.std.specs.Prelude.{unwrap_or}
+use Rattle.std.proofs.Common.{◌≡◌, ℕ, Bool, List, [], ◌∷◌, ◌++◌, map, refl, sym, ap, ◌∙◌, if◌then◌else◌}
 use Rattle.std.specs.List.{flat_map}
 use Rattle.std.proofs.lemmas.List.{map-append}
 use Rattle.std.proofs.lemmas.List.Concat.{flat_map_single}
@@ -9,14 +8,10 @@ use Rattle.wb_diagram.specs.declared.keys.Key.{Key}
 use Rattle.wb_diagram.specs.declared.keys.Pair.{Pair}
 use Rattle.wb_spec_check.specs.declared.checked_mappings.CheckedEdge.{CheckedEdge}
 use Rattle.wb_answers.specs.Seen.{Told}
-use Rattle.wb_edges.specs.Edges.{Scene, edge_between, edges_at, edges_between, elements_for, elements_of, finders, found_sources, found_targets, passes, precondition_at, units_at}
-use Rattle.wb_edges.specs.Grounds.{Indexes}
-use Rattle.wb_edges.specs.Puts.{edges_from}
-
--- the elements that a table gives for objects
-pub gathered : (s : Scene) (mappings : List ℕ) (table : ℕ → Option (List Key)) (objects : List ℕ) → Indexes table (elements_of s mappings)
-    → flat_map (λ (o : ℕ). unwrap_or (table o) []) objects ≡ flat_map (elements_for s mappings) objects
-gathered s mappings table objects indexed = ap (λ (f : ℕ → List Key). flat_map f objects) (λ i o. indexed o i)
+use Rattle.wb_edges.specs.Edges.{Scene, edge_between, edges_at, edges_between, elements_for, finders, found_sources, found_targets, passes, precondition_at, units_at}
+use Rattle.wb_edges.specs.Grounds.{AreEnds, elements_in}
+use Rattle.wb_edges.specs.Puts.{edges_by_ends, edges_from}
+use Rattle.wb_edges.specs.declared.ends.Ends.{Ends}
 
 map_flat : {X Y Z : Type 0} (h : Y → Z) (f : X → List Y) (xs : List X) → map h (flat_map f xs) ≡ flat_map (λ x. map h (f x)) xs
 map_flat h f [] = refl
@@ -27,11 +22,11 @@ to_targets : (s : Scene) (edge : CheckedEdge) (pair : Pair) (targets : List ℕ)
     → edges_from pair (flat_map (elements_for s edge.targets) targets) source ≡ flat_map (λ (to : ℕ). map (edge_between pair source) (elements_for s edge.targets to)) targets
 to_targets s edge pair targets source = flat_map_single (edge_between pair source) (flat_map (elements_for s edge.targets) targets) ∙ map_flat (edge_between pair source) (elements_for s edge.targets) targets
 
-pub between : (s : Scene) (edge : CheckedEdge) (pair : Pair) (table : ℕ → Option (List Key)) (sources targets : List ℕ) → Indexes table (elements_of s edge.sources)
-    → flat_map (λ (o : ℕ). flat_map (edges_from pair (flat_map (elements_for s edge.targets) targets)) (unwrap_or (table o) [])) sources ≡ edges_between s edge pair sources targets
-between s edge pair table sources targets indexed =
-    ap (λ (f : ℕ → List Key). flat_map (λ (o : ℕ). flat_map (edges_from pair (flat_map (elements_for s edge.targets) targets)) (f o)) sources) (λ i o. indexed o i)
-    ∙ ap (λ (h : Key → List EdgeKey). flat_map (λ (o : ℕ). flat_map h (elements_for s edge.sources o)) sources) (λ i source. to_targets s edge pair targets source i)
+pub by_ends : (s : Scene) (edge : CheckedEdge) (pair : Pair) (ends : Ends) (sources targets : List ℕ) → AreEnds s edge ends → edges_by_ends ends pair sources targets ≡ edges_between s edge pair sources targets
+by_ends s edge pair ends sources targets are =
+    ap (λ (f : ℕ → List Key). flat_map (λ (o : ℕ). flat_map (edges_from pair (flat_map (elements_in ends.targets) targets)) (f o)) sources) (λ i o. are.sources o i)
+    ∙ (ap (λ (f : ℕ → List Key). flat_map (λ (o : ℕ). flat_map (edges_from pair (flat_map f targets)) (elements_for s edge.sources o)) sources) (λ i o. are.targets o i)
+    ∙ ap (λ (h : Key → List EdgeKey). flat_map (λ (o : ℕ). flat_map h (elements_for s edge.sources o)) sources) (λ i source. to_targets s edge pair targets source i))
 
 -- ---- at a semantic object, by its precondition
 

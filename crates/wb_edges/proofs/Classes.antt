@@ -3,7 +3,7 @@ use Rattle.std.proofs.Common.{◌≡◌, ◌<◌, ℕ, length, Option, Some, Non
 use Rattle.std.specs.Prelude.{IfSome}
 use Rattle.wb_base.specs.Options.{◌>>=◌}
 use Rattle.wb_metamodel.specs.Metamodel.{Metamodel}
-use Rattle.wb_answers.proofs.CheckedParts.{FitForm, FitMapping, FitSource, IsClass, mapping_of_fits}
+use Rattle.wb_answers.proofs.CheckedParts.{FitForm, FitMapping, FitSource, mapping_of_fits}
 use Rattle.wb_answers.proofs.Yields.{OfSome}
 use Rattle.wb_spec_check.specs.Checked.{IsCheckedBy, Specification}
 use Rattle.wb_spec_check.specs.Units.{mapping_of}

@@ -1,11 +1,10 @@
 -- Edges that are put while their units are asked.
-use Rattle.std.proofs.Common.{◌≡◌, ◌+◌, ◌<◌, ◌≤◌, ◌⊎◌, ℕ, true, List, [], ◌∷◌, ◌++◌, length, take, drop, get_or, refl, sym, ap, subst, ◌∙◌, arith, append-nil, inl, inr, ⊎_elim}
+use Rattle.std.proofs.Common.{◌≡◌, ◌+◌, ◌<◌, ◌⊎◌, ℕ, true, List, [], ◌++◌, length, take, drop, get_or, sym, ap, subst, ◌∙◌, arith, append-nil, inl, inr, ⊎_elim}
 use Rattle.std.specs.List.{flat_map}
 use Rattle.std.specs.Prelude.{Result, Ok, Err, IsErr, IsErrAnd}
 use Rattle.wb_diagram.specs.declared.units.Unit.{Unit as Place}
 use Rattle.wb_diagram.specs.declared.keys.EdgeKey.{EdgeKey}
 use Rattle.wb_answers.specs.declared.answers.Stop.{Stop}
-use Rattle.wb_answers.specs.declared.answers.Stop.TheVariants.{TooLarge}
 use Rattle.wb_answers.specs.Seen.{Told, Seen, after, Asks}
 use Rattle.wb_answers.proofs.SeenLaws.{later, stays}
 use Rattle.wb_answers.proofs.SeenLoops.{told_of, goes_on, flat_map_split, asked_both}

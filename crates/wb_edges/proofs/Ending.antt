@@ -1,14 +1,14 @@
 -- What comes of the edges of all mappings, within the limit.
-use Rattle.std.proofs.Common.{◌≡◌, ◌+◌, ◌-◌, ◌<◌, ◌≤◌, ◌⊎◌, ℕ, true, List, [], length, refl, sym, ap, subst, ◌∙◌, arith, append-nil, inl, inr, ⊎_elim}
+use Rattle.std.proofs.Common.{◌≡◌, ◌+◌, ◌-◌, ◌<◌, ◌≤◌, ◌⊎◌, ℕ, true, List, [], length, sym, ap, ◌∙◌, arith, append-nil, inl, inr, ⊎_elim}
 use Rattle.std.specs.List.{flat_map}
 use Rattle.std.specs.Prelude.{Result, Ok, Err, IsErr, IsErrAnd}
 use Rattle.wb_base.specs.Lists.{numbers}
 use Rattle.wb_diagram.specs.declared.units.Unit.{Unit as Place}
 use Rattle.wb_diagram.specs.declared.keys.EdgeKey.{EdgeKey}
 use Rattle.wb_answers.specs.Limits.{AsksUpTo, WithinLimit}
-use Rattle.wb_answers.specs.Seen.{Seen, after}
+use Rattle.wb_answers.specs.Seen.{Seen}
 use Rattle.wb_answers.specs.declared.answers.Stop.{Stop}
-use Rattle.wb_answers.specs.declared.answers.Stop.TheVariants.{NoMemory, TooLarge}
+use Rattle.wb_answers.specs.declared.answers.Stop.TheVariants.{NoMemory}
 use Rattle.wb_answers.proofs.LimitLaws.{up_to}
 use Rattle.wb_answers.proofs.SeenLaws.{short}
 use Rattle.wb_edges.specs.Draws.{Drawn, Undrawn}

@@ -6,3 +6,4 @@ pub mod Draws
 pub mod Between
 pub mod Once
 pub mod Ending
+pub mod EdgeLaws

@@ -1,10 +1,9 @@
 -- The objects of elements, by one element more.
-use Rattle.std.proofs.Common.{◌≡◌, ◌+◌, ◌<◌, ℕ, Bool, true, false, cond, nat_eq, List, [], ◌∷◌, ◌++◌, length, map, filter, take, get_or, refl, sym, ap, ◌∙◌, append-nil, if◌then◌else◌}
+use Rattle.std.proofs.Common.{◌≡◌, ◌+◌, ◌<◌, ℕ, Bool, true, false, cond, nat_eq, List, [], ◌∷◌, ◌++◌, length, map, filter, take, get_or, sym, ap, ◌∙◌, append-nil, if◌then◌else◌}
 use Rattle.std.proofs.lemmas.List.{map-append}
 use Rattle.std.proofs.lemmas.List.Elements.{filter_more}
 use Rattle.indexmap.specs.IndexSet.{insert_key}
 use Rattle.wb_base.specs.Lists.{first_places}
-use Rattle.wb_diagram.specs.Keys.{own_pair}
 use Rattle.wb_diagram.specs.declared.keys.Key.{Key}
 use Rattle.wb_answers.proofs.FirstPlaces.{first_places-insert}
 

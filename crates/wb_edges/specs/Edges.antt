@@ -106,8 +106,8 @@ edge_between pair source target = record { mapping = pair.mapping; object = pair
 abbrev pub edges_between : Scene → CheckedEdge → Pair → (sources targets : List ℕ) → List EdgeKey
 edges_between s edge pair sources targets =
     flat_map (λ (from : ℕ). flat_map (λ (source : Key).
-      flat_map (λ (to : ℕ). map (edge_between pair source) (elements_for s edge.targets to)) targets)
-      (elements_for s edge.sources from)) sources
+    flat_map (λ (to : ℕ). map (edge_between pair source) (elements_for s edge.targets to)) targets)
+    (elements_for s edge.sources from)) sources
 
 -- what a semantic object declares
 unfoldable pub edges_at : Scene → Told → CheckedEdge → Pair → List EdgeKey

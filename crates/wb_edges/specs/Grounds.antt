@@ -1,6 +1,6 @@
 -- What edges are declared over, as the definitions see it.
-use Rattle.std.specs.Prelude.{◌≡◌, ◌<◌, ℕ, nat_eq, List, [], length, filter, Option, unwrap_or, IfSome}
-use Rattle.indexmap.specs.IndexMap.{get}
+use Rattle.std.specs.Prelude.{◌≡◌, ◌<◌, ℕ, nat_eq, List, [], length, filter, unwrap_or, IfSome}
+use Rattle.indexmap.specs.IndexMap.{IndexMap, get}
 use Rattle.wb_diagram.specs.declared.keys.Key.{Key}
 use Rattle.wb_spec_check.specs.Checked.{IsCheckedBy}
 use Rattle.wb_spec_check.specs.declared.checked_mappings.CheckedEdge.{CheckedEdge}
@@ -23,11 +23,15 @@ HasClass g source = source.objects.domain < length g.model.now.metamodel.classes
 abbrev pub HasClassOfCandidates : Grounds → CheckedEdge → Type 0
 HasClassOfCandidates g edge = IfSome edge.object_edge (HasClass g)
 
--- the table has for each object those of the elements that represent it
-abbrev pub Indexes : (table : ℕ → Option (List Key)) → (elements : List Key) → Type 0
-Indexes table elements = (o : ℕ) → unwrap_or (table o) [] ≡ filter (represents o) elements
+-- what a table has for an object
+abbrev pub elements_in : {S : Type 0} → IndexMap ℕ (List Key) S → ℕ → List Key
+elements_in table o = unwrap_or (get nat_eq table o) []
+
+-- that is for each object those of the elements that represent it
+abbrev pub Indexes : {S : Type 0} → IndexMap ℕ (List Key) S → (elements : List Key) → Type 0
+Indexes table elements = (o : ℕ) → elements_in table o ≡ filter (represents o) elements
 
 -- the elements at which the edges of a mapping may begin and end
 pub record AreEnds (s : Scene) (edge : CheckedEdge) (ends : Ends) : Type 0 where
-  pub sources : Indexes (get nat_eq ends.sources) (elements_of s edge.sources)
-  pub targets : Indexes (get nat_eq ends.targets) (elements_of s edge.targets)
+  pub sources : Indexes ends.sources (elements_of s edge.sources)
+  pub targets : Indexes ends.targets (elements_of s edge.targets)

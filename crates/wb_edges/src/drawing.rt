@@ -3,9 +3,8 @@ ghost use Rattle.std.specs.List.{flat_map};
 ghost use Rattle.wb_edges.specs.Draws.{Draws};
 ghost use Rattle.wb_edges.specs.Edges.{edges_at, edges_between, finders, found_sources, found_targets, pair_of, units_at};
 ghost use Rattle.wb_edges.specs.Grounds.{AreEnds, scene};
-ghost use Rattle.wb_edges.specs.Puts.{Puts};
 
-use crate::ends::{Ends, gather};
+use crate::ends::Ends;
 use crate::found::{found_sources, found_targets, passes};
 use crate::grounds::Grounds;
 use crate::puts::put_between;
@@ -79,31 +78,12 @@ fn draw_found<A: Answers>(
 {
     let sources = found_sources(grounds.alloc, edge, pair, answers)?;
     let targets = found_targets(grounds.alloc, pair, answers)?;
-    draw_between(
+    put_between(
         grounds,
-        edge,
         ends,
         pair,
         sources.as_slice(),
         targets.as_slice(),
         edges,
     )
-}
-
-// Puts the edges from the elements of the source objects to those of the target objects.
-fn draw_between(
-    grounds: &Grounds<'_>,
-    edge: &CheckedEdge,
-    ends: &Ends,
-    pair: &Pair,
-    sources: &[ObjectId],
-    targets: &[ObjectId],
-    edges: &mut IndexSet<EdgeKey>,
-) -> Result<(), Stop>
-    requires ends { AreEnds (scene grounds.now) edge.now ends.now }
-    requires few { length edges.old.keys ≤ grounds.now.room }
-    ensures { Puts edges.old.keys (edges_between (scene grounds.now) edge.now pair.now sources.now targets.now) grounds.now.room result edges.new.keys }
-{
-    let to = gather(grounds.alloc, &ends.targets, targets)?;
-    put_between(grounds, pair, &ends.sources, sources, to.as_slice(), edges)
 }

@@ -1,9 +1,8 @@
-ghost use Rattle.std.specs.Prelude.{◌≡◌, ℕ, [], ◌∷◌, ◌++◌, filter, nat_eq, unwrap_or, IfOk, OnOk, if◌then◌else◌};
+ghost use Rattle.std.specs.Prelude.{◌≡◌, ℕ, [], ◌∷◌, ◌++◌, filter, IfOk, OnOk, if◌then◌else◌};
 ghost use Rattle.std.specs.List.{flat_map};
-ghost use Rattle.indexmap.specs.IndexMap.{get};
 ghost use Rattle.wb_diagram.specs.Keys.{own_pair};
 ghost use Rattle.wb_edges.specs.Edges.{is_of, represents};
-ghost use Rattle.wb_edges.specs.Grounds.{AreEnds, Indexes, scene};
+ghost use Rattle.wb_edges.specs.Grounds.{AreEnds, Indexes, elements_in, scene};
 
 use crate::grounds::Grounds;
 use indexmap::IndexMap;
@@ -64,7 +63,7 @@ fn index(
     mappings: &[u32],
     nodes: &[Key],
 ) -> Result<IndexMap<u32, List<Key>>, AllocError>
-    ensures { IfOk result (λ table. Indexes (get nat_eq table) (filter (is_of mappings.now) nodes.now)) }
+    ensures { IfOk result (λ table. Indexes table (filter (is_of mappings.now) nodes.now)) }
 {
     let mut table = IndexMap::new(alloc);
     for key in nodes {
@@ -81,7 +80,7 @@ fn put_element(
     table: &mut IndexMap<u32, List<Key>>,
     key: &Key,
 ) -> Result<(), AllocError>
-    ensures { OnOk result ((o : ℕ) → unwrap_or (get nat_eq table.new o) [] ≡ unwrap_or (get nat_eq table.old o) [] ++ (if represents o key.now then key.now ∷ [] else [])) }
+    ensures { OnOk result ((o : ℕ) → elements_in table.new o ≡ elements_in table.old o ++ (if represents o key.now then key.now ∷ [] else [])) }
 {
     let own = own_pair(key);
     let key = key.copy(alloc)?;
@@ -94,7 +93,7 @@ fn put_element(
 
 /// The elements that represent an object.
 pub fn elements_for<'a>(table: &'a IndexMap<u32, List<Key>>, object: ObjectId) -> &'a [Key]
-    ensures { result.now ≡ unwrap_or (get nat_eq table.now object) [] }
+    ensures { result.now ≡ elements_in table.now object }
 {
     match table.get(&object.0) {
         Some(keys) => keys.as_slice(),
@@ -108,7 +107,7 @@ pub fn gather(
     table: &IndexMap<u32, List<Key>>,
     objects: &[ObjectId],
 ) -> Result<Vec<Key>, AllocError>
-    ensures { IfOk result (λ keys. keys.items ≡ flat_map (λ (o : ℕ). unwrap_or (get nat_eq table.now o) []) objects.now) }
+    ensures { IfOk result (λ keys. keys.items ≡ flat_map (elements_in table.now) objects.now) }
 {
     let mut keys = Vec::new(alloc);
     for object in objects {

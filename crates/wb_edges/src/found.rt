@@ -29,11 +29,7 @@ pub fn objects_at<A: Answers>(
 
 /// Is the precondition of a semantic object true, if there is one? It is then asked.
 #[tactic(auto, using(wb_answers::proofs::SeenLaws::after_none))]
-pub fn passes<A: Answers>(
-    grounds: &Grounds<'_>,
-    pair: &Pair,
-    answers: &mut A,
-) -> Result<bool, Stop>
+pub fn passes<A: Answers>(grounds: &Grounds<'_>, pair: &Pair, answers: &mut A) -> Result<bool, Stop>
     requires { (A.seen answers.old).over ≡ false }
     ensures value { IfOk result (λ b. b ≡ passes (scene grounds.now) (A.seen answers.old).told pair.now) }
     ensures asks { Asks (A.seen answers.old) (precondition_at (scene grounds.now) pair.now) result (A.seen answers.new) }

@@ -1,12 +1,10 @@
-ghost use Rattle.std.specs.Prelude.{◌≡◌, ◌<◌, length};
+ghost use Rattle.std.specs.Prelude.{◌≡◌, length};
 ghost use Rattle.std.specs.Option.{option_copied};
-ghost use Rattle.wb_validity.specs.Valid.{conforms_to};
 ghost use Rattle.wb_spec_check.specs.Units.{mapping_of};
 ghost use Rattle.wb_edges.specs.Edges.{edge_in, edge_mapping, is_conditional};
 
 use std::alloc::Global;
 use wb_diagram::Key;
-use wb_metamodel::{ClassId, ObjectId};
 use wb_model::Model;
 use wb_spec_check::{CheckedEdge, CheckedForm, CheckedMapping, CheckedViewpoint};
 
@@ -63,15 +61,4 @@ pub fn count_of_mappings(spec: &CheckedViewpoint) -> u32
 {
     let _content = spec.viewpoint().content();
     spec.parts().mappings.len() as u32
-}
-
-/// Is the object live, and of the class?
-pub fn is_of_class(model: &Model, class: ClassId, object: ObjectId) -> bool
-    requires { class < length model.now.metamodel.classes }
-    ensures { result ≡ conforms_to model.now class object }
-{
-    match model.kind(object) {
-        Some(own) => model.metamodel().conforms(own, class),
-        None => false,
-    }
 }

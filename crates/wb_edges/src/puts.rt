@@ -1,9 +1,8 @@
-ghost use Rattle.std.specs.Prelude.{◌≡◌, ◌≤◌, ℕ, [], ◌∷◌, length, nat_eq, unwrap_or};
+ghost use Rattle.std.specs.Prelude.{◌≡◌, ◌≤◌, [], ◌∷◌, length};
 ghost use Rattle.std.specs.List.{flat_map};
-ghost use Rattle.indexmap.specs.IndexMap.{get};
-ghost use Rattle.wb_edges.specs.Puts.{Puts, edges_from};
+ghost use Rattle.wb_edges.specs.Puts.{Puts, edges_by_ends, edges_from, edges_from_object};
 
-use crate::ends::elements_for;
+use crate::ends::{Ends, elements_for, gather};
 use crate::grounds::Grounds;
 use indexmap::{IndexMap, IndexSet};
 use wb_answers::Stop;
@@ -63,8 +62,8 @@ fn put_from_each(
     Ok(())
 }
 
-/// Puts the edges from the elements of each of the objects to each of the targets.
-pub fn put_between(
+// Puts the edges from the elements of each of the objects to each of the targets.
+fn put_from_objects(
     grounds: &Grounds<'_>,
     pair: &Pair,
     sources: &IndexMap<u32, List<Key>>,
@@ -73,11 +72,27 @@ pub fn put_between(
     edges: &mut IndexSet<EdgeKey>,
 ) -> Result<(), Stop>
     requires { length edges.old.keys ≤ grounds.now.room }
-    ensures { Puts edges.old.keys (flat_map (λ (o : ℕ). flat_map (edges_from pair.now targets.now) (unwrap_or (get nat_eq sources.now o) [])) objects.now) grounds.now.room result edges.new.keys }
+    ensures { Puts edges.old.keys (flat_map (edges_from_object pair.now targets.now sources.now) objects.now) grounds.now.room result edges.new.keys }
 {
     for object in objects {
         let own = elements_for(sources, *object);
         put_from_each(grounds, pair, own, targets, edges)?;
     }
     Ok(())
+}
+
+/// Puts the edges from the elements of the source objects to those of the target objects.
+pub fn put_between(
+    grounds: &Grounds<'_>,
+    ends: &Ends,
+    pair: &Pair,
+    sources: &[ObjectId],
+    targets: &[ObjectId],
+    edges: &mut IndexSet<EdgeKey>,
+) -> Result<(), Stop>
+    requires { length edges.old.keys ≤ grounds.now.room }
+    ensures { Puts edges.old.keys (edges_by_ends ends.now pair.now sources.now targets.now) grounds.now.room result edges.new.keys }
+{
+    let to = gather(grounds.alloc, &ends.targets, targets)?;
+    put_from_objects(grounds, pair, &ends.sources, sources, to.as_slice(), edges)
 }

@@ -7,7 +7,7 @@ ghost use Rattle.wb_edges.specs.Grounds.{HasClass, HasClassOfCandidates, scene};
 
 use crate::ends::{is_of, own_pair};
 use crate::found::objects_at;
-use crate::grounds::{Grounds, is_of_class};
+use crate::grounds::Grounds;
 use indexmap::IndexSet;
 use std::alloc::{AllocError, Global};
 use wb_answers::{Answers, Stop};
@@ -48,11 +48,7 @@ fn candidates_by<A: Answers>(
 {
     let unit = Unit::EdgeCandidates { mapping: number };
     let objects = objects_at(grounds.alloc, &unit, answers)?;
-    Ok(of_class(
-        grounds,
-        source.objects.domain,
-        objects.as_slice(),
-    )?)
+    Ok(of_class(grounds, source.objects.domain, objects.as_slice())?)
 }
 
 // Those of the objects that are live and of the class.
@@ -66,7 +62,7 @@ fn of_class(
 {
     let mut kept = Vec::new(grounds.alloc);
     for object in objects {
-        if is_of_class(grounds.model, class, *object) {
+        if grounds.model.is_of_class(*object, class) {
             kept.push(*object)?;
         }
     }
@@ -74,11 +70,7 @@ fn of_class(
 }
 
 // The objects of the declared elements of these mappings, each once.
-fn objects_by(
-    alloc: Global,
-    mappings: &[u32],
-    nodes: &[Key],
-) -> Result<Vec<ObjectId>, AllocError>
+fn objects_by(alloc: Global, mappings: &[u32], nodes: &[Key]) -> Result<Vec<ObjectId>, AllocError>
     ensures { IfOk result (λ objects. objects.items ≡ objects_by (filter (is_of mappings.now) nodes.now)) }
 {
     let mut objects = IndexSet::new(alloc);

@@ -15,7 +15,7 @@ use Rattle.wb_diagram.specs.declared.units.Unit.{Unit as Place}
 use Rattle.wb_diagram.specs.declared.units.Unit.TheVariants.{Candidates, Precondition, EdgeCandidates, EdgePrecondition, Source, Target, Style, Label, Filter}
 use Rattle.wb_aql_eval.specs.declared.env.Outcome.{Outcome}
 use Rattle.wb_answers.specs.SameKeys.{same_pair, same_key}
-use Rattle.wb_looks.specs.Visible.{same_any, same_edge}
+use Rattle.wb_answers.specs.SameKeys.{same_any, same_edge}
 use Rattle.wb_refresh.specs.SameUnits.{same_parent, same_unit}
 
 -- ---- the same, and so equal

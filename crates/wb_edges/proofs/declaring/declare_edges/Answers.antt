@@ -1,4 +1,4 @@
-use Rattle.std.proofs.Common.{◌≡◌, ◌∙◌, ◌≤◌, length, arith}
+use Rattle.std.proofs.Common.{◌∙◌, arith}
 use Rattle.wb_edges.specs.Edges.{scene_of}
 use Rattle.wb_edges.proofs.Ending.{ended, ended_edges, ended_refused, ended_short}
 use Rattle.wb_edges.proofs.declaring.declare_edges.Goals as goal

@@ -1,4 +1,4 @@
-use Rattle.std.proofs.Common.{◌≡◌, ◌∙◌, ◌++◌, ℕ, List, ap, refl, subst}
+use Rattle.std.proofs.Common.{◌∙◌, ℕ, List, refl, subst}
 use Rattle.std.specs.List.{flat_map}
 use Rattle.wb_answers.specs.Seen.{Told}
 use Rattle.wb_answers.proofs.SeenLoops.{not_over, refused_first, told_of}

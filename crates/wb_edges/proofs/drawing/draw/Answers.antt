@@ -1,9 +1,9 @@
-use Rattle.std.proofs.Common.{◌≡◌, ◌∙◌, ◌++◌, List, [], true, false, ap, sym, refl, subst, append-nil}
+use Rattle.std.proofs.Common.{◌∙◌, List, true, false, ap, sym, refl, subst, append-nil}
 use Rattle.wb_diagram.specs.declared.keys.EdgeKey.{EdgeKey}
 use Rattle.wb_answers.specs.Seen.{Told, after}
 use Rattle.wb_answers.proofs.SeenLoops.{not_over, refused_first, told_of}
 use Rattle.wb_edges.specs.Draws.{Draws}
-use Rattle.wb_edges.specs.Edges.{edges_between, finders, found_sources, found_targets, passes, precondition_at}
+use Rattle.wb_edges.specs.Edges.{edges_between, finders, found_sources, found_targets, precondition_at}
 use Rattle.wb_edges.specs.Grounds.{scene}
 use Rattle.wb_edges.specs.Puts.{put_all}
 use Rattle.wb_edges.proofs.Putting.{put_none}

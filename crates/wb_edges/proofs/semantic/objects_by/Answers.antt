@@ -1,4 +1,4 @@
-use Rattle.std.proofs.Common.{◌≡◌, ◌∙◌, ℕ, List, nat_eq, sym, ap, arith}
+use Rattle.std.proofs.Common.{◌∙◌, ℕ, List, nat_eq, sym, ap, arith}
 use Rattle.std.proofs.lemmas.Grind.{common_steps}
 use Rattle.indexmap.specs.IndexSet.{insert_key}
 use Rattle.wb_diagram.specs.Keys.{own_pair}
@@ -17,9 +17,9 @@ loop-key-preserved c =
       | then-is_of+in_ok-insert_full w ↦
           let taken = objects_taken (is_of c.args.mappings.now) object c.args.nodes.now c.loop-key.key-index c.key-item.result c.loop-key-test.true c.key-item.is (sym w.if-is_of.ensures) in
           let step = inserted c.loop-key.objects.keys _ w.own_pair.result.object w.in_ok-insert_full.ensures.keys
-              ∙ ap (λ (pair : Pair). insert_key nat_eq c.loop-key.objects.keys pair.object) w.own_pair.ensures
-              ∙ ap (λ (ks : List ℕ). insert_key nat_eq ks (object c.key-item.result)) c.loop-key.invariant
-              ∙ sym taken in
+          ∙ ap (λ (pair : Pair). insert_key nat_eq c.loop-key.objects.keys pair.object) w.own_pair.ensures
+          ∙ ap (λ (ks : List ℕ). insert_key nat_eq ks (object c.key-item.result)) c.loop-key.invariant
+          ∙ sym taken in
           grind (arith, common_steps, step)
       | else-is_of w ↦
           let passed = objects_passed (is_of c.args.mappings.now) object c.args.nodes.now c.loop-key.key-index c.key-item.result c.loop-key-test.true c.key-item.is (sym w.if-is_of.ensures) in
