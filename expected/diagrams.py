@@ -207,12 +207,17 @@ class Diagram:
             if "sourceFinder" in mapping:
                 from_objects = self.objects(f"source {number}.{o}", self.evaluated(mapping["sourceFinder"], o))
             to_objects = self.objects(f"target {number}.{o}", self.evaluated(mapping["targetFinder"], o))
-            for one in from_objects:
-                for source in sources.get(one, []):
-                    for other in to_objects:
-                        for target in targets.get(other, []):
-                            self.edges[Edge(number, o, source, target)] = True
-                            self.stay_within_limit()
+            self.draw_between(number, o, sources, first_places(from_objects), targets, first_places(to_objects))
+
+    def draw_between(self, number, o, sources, from_objects, targets, to_objects):
+        """One edge for each turn of four loops: found source objects, the elements for each, found target objects, the elements for each.
+        Equal keys count once, so an object that is found again adds nothing."""
+        for one in from_objects:
+            for source in sources.get(one, []):
+                for other in to_objects:
+                    for target in targets.get(other, []):
+                        self.edges[Edge(number, o, source, target)] = True
+                        self.stay_within_limit()
 
     # ---- looks, filters, layers
 

@@ -7,92 +7,13 @@ What is told of a diagram (the keys of elements and edges, the problems, and whe
 the table, written by hand from the rules. `diagrams.py` draws each case anew, and all of this has to hold of what it draws; the text that
 the program has to print is that drawing.
 """
-import json
-import sys
+from sketches import border, case, container, edge, facts, hiding, items, model, node, object_edge, style, tell, view, when
 
-import diagrams
-import viewpoints
-from checks import TOP
-from program import held
-
-STYLE = {"shape": "box", "color": "white"}
-DATA = f"{TOP}/crates/cases_program/data"
 CASES = []
 
 
-# ---- viewpoints
-
-def style(color="white", label=None, shape="box"):
-    return {"shape": shape, "color": color, **({} if label is None else {"label": label})}
-
-
-def node(name, domain, candidates=None, label=None, kind="node", **members):
-    found = {} if candidates is None else {"candidates": candidates}
-    return {"name": name, "kind": kind, "domain": domain, **found, "style": style(label=label), **members}
-
-
-def container(*told, **members):
-    return node(*told, kind="container", **members)
-
-
-def border(*told, **members):
-    return node(*told, kind="border", **members)
-
-
-def items(*told, **members):
-    return node(*told, kind="list", **members)
-
-
-def edge(name, sources, targets, target, **members):
-    return {"name": name, "kind": "edge", "sources": sources.split(), "targets": targets.split(), "targetFinder": target, "style": STYLE, **members}
-
-
-def object_edge(name, domain, sources, targets, source, target, **members):
-    return {"name": name, "kind": "object-edge", "domain": domain, "sources": sources.split(), "targets": targets.split(),
-            "sourceFinder": source, "targetFinder": target, "style": STYLE, **members}
-
-
-def when(condition, color="white", label=None):
-    return {"when": condition, "style": style(color, label)}
-
-
-def hiding(name, mappings, hides):
-    return {"name": name, "mappings": mappings.split(), "hides": hides}
-
-
-def view(*mappings, domain="Library", top=None, layers="Base", **members):
-    """A viewpoint; on top stand the mappings of elements that no other one lists. A layer with a `+` is active."""
-    listed = {name for mapping in mappings for name in mapping.get("children", []) + mapping.get("borders", []) if name != mapping["name"]}
-    free = [mapping["name"] for mapping in mappings if mapping["kind"] in ("node", "container", "list") and mapping["name"] not in listed]
-    named = [{"name": name.rstrip("+"), **({"active": True} if name.endswith("+") else {})} for name in layers.split()]
-    return {"viewpoint": "V", "diagram": {"name": "D", "domain": domain, "layers": named, "top": free if top is None else top,
-                                          "mappings": list(mappings), **members}}
-
-
-# ---- models
-
-def model(roots, **objects):
-    """Objects are told as `o3=("Library", {..})`."""
-    listed = [{"class": kind, "id": int(name[1:]), "slots": slots} for name, (kind, slots) in objects.items()]
-    return {"next": max(x["id"] for x in listed) + 1, "objects": listed, "roots": roots}
-
-
-def compact(value):
-    return json.dumps(value, ensure_ascii=False, separators=(",", ":"))
-
-
-# ---- cases
-
-def draw(name, shows, viewpoint, over="town.model.json", meta="town.metamodel.json", keys="", edges="", problems=(), elements=None, **facts):
-    """`keys` and `edges` are those that are served; `elements` is the number of declared elements and edges where some are not."""
-    told = {"element_keys": keys.split(), "edge_keys": edges.split(),
-            "problems": [dict(zip(("at", "fault"), problem.rsplit(" ", 1))) for problem in problems], **facts}
-    if elements is not None:
-        told["counts"] = {**told.get("counts", {}), **dict(zip(("elements", "edges"), elements))}
-    files = [["m.json", meta] if isinstance(meta, str) else ["m.json", "text", compact(meta)], ["v.json", "text", compact(viewpoint)],
-             ["x.json", over] if isinstance(over, str) else ["x.json", "text", compact(over)]]
-    CASES.append({"name": name, "shows": shows, "words": ["draw", "m.json", "v.json", "x.json"], "files": files,
-                  "expect": {"status": 0, "sink": "picture", "diagram": told, "asked": ["m.json", "v.json", "x.json"]}})
+def draw(name, shows, viewpoint, over="town.model.json", meta="town.metamodel.json", keys="", edges="", problems=(), elements=None, **more):
+    CASES.append(case(name, shows, viewpoint, over, meta, diagram=facts(keys, edges, problems, elements, **more)))
 
 
 WORKS = node("Work", "Work", "feature:works")
@@ -616,17 +537,5 @@ draw("whole_town", "All kinds of mappings, layers, styles, filters and problems 
      problems=["precondition 0.1-1.1-2.4 NotInt", "style 1 0.11 NotBool", "filter 0 7.9:0.1-1.1-2.2:0.1 NoFeature"])
 
 
-def main():
-    names = [case["name"] for case in CASES]
-    for case in CASES:
-        files = held(DATA, case)
-        metamodel, viewpoint, over = (json.loads(files[word]) for word in case["words"][1:])
-        problems = viewpoints.checked(metamodel, files["v.json"], "v.json")
-        told = [] if problems[0] else diagrams.differing(case["expect"]["diagram"], diagrams.diagram_of(metamodel, viewpoint, over))
-        for line in [*([problems[1]] if problems[0] else []), *told, *(["stands twice"] if names.count(case["name"]) > 1 else [])]:
-            print(f"{case['name']}: {line}", file=sys.stderr)
-    print("[\n" + ",\n".join(" " + json.dumps(case, ensure_ascii=False) for case in CASES) + "\n]")
-
-
 if __name__ == "__main__":
-    main()
+    tell(CASES)
