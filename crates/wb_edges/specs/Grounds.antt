@@ -1,5 +1,5 @@
 -- What edges are declared over, as the definitions see it.
-use Rattle.std.specs.Prelude.{◌≡◌, ◌<◌, ℕ, nat_eq, List, [], length, filter, unwrap_or, IfSome}
+use Rattle.std.specs.Prelude.{◌≡◌, ◌<◌, ℕ, Bool, not, nat_eq, List, [], length, filter, unwrap_or, IfSome}
 use Rattle.indexmap.specs.IndexMap.{IndexMap, get}
 use Rattle.wb_diagram.specs.declared.keys.Key.{Key}
 use Rattle.wb_spec_check.specs.Checked.{IsCheckedBy}
@@ -27,7 +27,11 @@ HasClassOfCandidates g edge = IfSome edge.object_edge (HasClass g)
 abbrev pub elements_in : {S : Type 0} → IndexMap ℕ (List Key) S → ℕ → List Key
 elements_in table o = unwrap_or (get nat_eq table o) []
 
--- that is for each object those of the elements that represent it
+-- does it have an element for the object?
+abbrev pub has_element : {S : Type 0} → IndexMap ℕ (List Key) S → ℕ → Bool
+has_element table o = not (nat_eq (length (elements_in table o)) 0)
+
+-- it has for each object those of the elements that represent it
 abbrev pub Indexes : {S : Type 0} → IndexMap ℕ (List Key) S → (elements : List Key) → Type 0
 Indexes table elements = (o : ℕ) → elements_in table o ≡ filter (represents o) elements
 

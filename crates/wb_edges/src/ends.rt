@@ -1,8 +1,8 @@
 ghost use Rattle.std.specs.Prelude.{◌≡◌, ℕ, [], ◌∷◌, ◌++◌, filter, IfOk, OnOk, if◌then◌else◌};
-ghost use Rattle.std.specs.List.{flat_map};
+ghost use Rattle.std.specs.List.{flat_map, list_any};
 ghost use Rattle.wb_diagram.specs.Keys.{own_pair};
 ghost use Rattle.wb_edges.specs.Edges.{is_of, represents};
-ghost use Rattle.wb_edges.specs.Grounds.{AreEnds, Indexes, elements_in, scene};
+ghost use Rattle.wb_edges.specs.Grounds.{AreEnds, Indexes, elements_in, has_element, scene};
 
 use crate::grounds::Grounds;
 use indexmap::IndexMap;
@@ -99,6 +99,15 @@ pub fn elements_for<'a>(table: &'a IndexMap<u32, List<Key>>, object: ObjectId) -
         Some(keys) => keys.as_slice(),
         None => &[],
     }
+}
+
+/// Does an element represent one of these objects?
+pub fn is_any_represented(table: &IndexMap<u32, List<Key>>, objects: &[ObjectId]) -> bool
+    ensures { result ≡ list_any (has_element table.now) objects.now }
+{
+    objects
+        .iter()
+        .any(|object| !elements_for(table, *object).is_empty())
 }
 
 /// The elements that represent these objects, object by object.

@@ -2,7 +2,7 @@ ghost use Rattle.std.specs.Prelude.{◌≡◌, ◌≤◌, [], ◌∷◌, length}
 ghost use Rattle.std.specs.List.{flat_map};
 ghost use Rattle.wb_edges.specs.Puts.{Puts, edges_by_ends, edges_from, edges_from_object};
 
-use crate::ends::{Ends, elements_for, gather};
+use crate::ends::{Ends, elements_for, gather, is_any_represented};
 use crate::grounds::Grounds;
 use indexmap::{IndexMap, IndexSet};
 use wb_answers::Stop;
@@ -93,6 +93,9 @@ pub fn put_between(
     requires { length edges.old.keys ≤ grounds.now.room }
     ensures { Puts edges.old.keys (edges_by_ends ends.now pair.now sources.now targets.now) grounds.now.room result edges.new.keys }
 {
+    if !is_any_represented(&ends.sources, sources) {
+        return Ok(());
+    }
     let to = gather(grounds.alloc, &ends.targets, targets)?;
     put_from_objects(grounds, pair, &ends.sources, sources, to.as_slice(), edges)
 }

@@ -15,11 +15,11 @@ use Rattle.wb_diagram.specs.declared.keys.Pair.{Pair}
 use Rattle.wb_answers.specs.Environments.{front}
 use Rattle.wb_diagram.specs.contracts.keys.KeyPartialEq.TheImpl.{eq-value}
 use Rattle.wb_answers.specs.SameKeys.{among, same_key}
-use Rattle.wb_answers.proofs.SameKeyLaws.{any_same, key_symm, same_keys, key_equiv}
+use Rattle.wb_answers.proofs.SameKeyLaws.{any_same, key_equiv, key_is, key_symm, same_keys}
 use Rattle.wb_looks.specs.Conditions.{Block, Tell, is_blocked_at, is_blocked_by, is_clear_at, is_unblocked, is_visible_at}
 use Rattle.wb_looks.specs.Visible.{HasGround, is_node_visible, is_path_visible, is_visible_by, node_of}
 use Rattle.wb_looks.specs.declared.conditions.Conditions.{Conditions}
-use Rattle.wb_looks.proofs.KeyLaws.{key_is, one_more}
+use Rattle.wb_looks.proofs.KeyLaws.{one_more}
 
 -- ---- on the way down a path
 

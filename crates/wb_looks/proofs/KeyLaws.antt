@@ -1,37 +1,12 @@
 -- Equal keys are the same, and how a set of keys grows by a key.
-use Rattle.std.proofs.Common.{◌≡◌, ◌<◌, ◌+◌, ℕ, Bool, true, false, cond, ◌||◌, List, [], ◌∷◌, length, take, get_or, refl, sym, ap, ◌∙◌, rules}
+use Rattle.std.proofs.Common.{◌≡◌, ◌<◌, ◌+◌, ℕ, Bool, true, false, cond, ◌||◌, List, length, take, get_or, refl, sym, ap, ◌∙◌, rules}
 use Rattle.std.specs.List.{list_any}
-use Rattle.std.specs.Cmp.Lexicographic.{pointwise}
-use Rattle.std.proofs.lemmas.Bool.{and_parts, eqb-true}
 use Rattle.std.proofs.lemmas.List.Folds.{list_any_more}
 use Rattle.wb_diagram.specs.declared.keys.AnyKey.{AnyKey}
 use Rattle.wb_diagram.specs.declared.keys.AnyKey.TheVariants.{Node, Edge}
-use Rattle.wb_diagram.specs.declared.keys.EdgeKey.{EdgeKey}
-use Rattle.wb_diagram.specs.declared.keys.Key.{Key}
-use Rattle.wb_diagram.specs.declared.keys.Pair.{Pair}
 use Rattle.wb_diagram.specs.contracts.keys.AnyKeyPartialEq.TheImpl.{eq-value}
-use Rattle.wb_answers.specs.SameKeys.{same_key, same_pair, same_any}
-use Rattle.wb_answers.proofs.SameKeyLaws.{key_symm, key_equiv, edge_equiv}
-
--- ---- keys of elements
-
-pair_is : (a b : Pair) → same_pair a b ≡ true → a ≡ b
-pair_is a b same =
-    let parts = and_parts _ _ same in
-    let mapping = eqb-true a.mapping b.mapping parts.0 in
-    let object = eqb-true a.object b.object parts.1 in
-    ap (λ (m : ℕ). record { mapping = m; object = a.object }) mapping ∙ ap (λ (o : ℕ). record { mapping = b.mapping; object = o }) object
-
-pairs_are : (xs ys : List Pair) → pointwise same_pair xs ys ≡ true → xs ≡ ys
-pairs_are [] [] same = refl
-pairs_are [] (y ∷ ys) same = cc
-pairs_are (x ∷ xs) [] same = cc
-pairs_are (x ∷ xs) (y ∷ ys) same =
-    let parts = and_parts (same_pair x y) (pointwise same_pair xs ys) same in
-    ap (λ (p : Pair). p ∷ xs) (pair_is x y parts.0) ∙ ap (λ (ps : List Pair). y ∷ ps) (pairs_are xs ys parts.1)
-
-pub key_is : (a b : Key) → same_key a b ≡ true → a ≡ b
-key_is a b same = ap (λ (pairs : List Pair). record { pairs = pairs }) (pairs_are a.pairs b.pairs same)
+use Rattle.wb_answers.specs.SameKeys.{same_any}
+use Rattle.wb_answers.proofs.SameKeyLaws.{key_symm, edge_equiv}
 
 -- ---- keys of either sort
 
