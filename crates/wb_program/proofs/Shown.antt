@@ -24,7 +24,7 @@ use Rattle.wb_edges.proofs.EdgeLaws.{EndsAmong, edges_end_among, edges_have_mapp
 use Rattle.wb_looks.specs.Filters.{filter_units}
 use Rattle.wb_looks.specs.Looks.{HasMapping, look_units}
 use Rattle.wb_looks.specs.Visible.{HasGround}
-use Rattle.wb_looks.proofs.KeyLaws.{key_is}
+use Rattle.wb_answers.proofs.SameKeyLaws.{key_is}
 use Rattle.wb_looks.proofs.UnitLaws.{filter_units_name_paths, look_units_name_paths}
 use Rattle.wb_picture.specs.Picture.{all_keys}
 use Rattle.wb_refresh.specs.Diagrams.{edges_of, edge_units_of, keys_of, units_at, units_of}
