@@ -1,5 +1,5 @@
 -- What is drawn of keys whose looks and flags go beside them.
-use Rattle.std.proofs.Common.{◌≡◌, ◌+◌, ◌<◌, ℕ, zero, suc, Bool, true, false, cond, List, [], ◌∷◌, ◌++◌, length, take, drop, get_or, map, Option, Some, None, refl, sym, ap, ◌∙◌, add-one, append_assoc, arith, if◌then◌else◌}
+use Rattle.std.proofs.Common.{◌≡◌, ◌+◌, ◌<◌, ℕ, zero, suc, Bool, true, false, cond, List, [], ◌∷◌, ◌++◌, length, take, drop, get_or, map, Option, Some, None, refl, sym, ap, ◌∙◌, add-one, append-nil, append_assoc, arith, if◌then◌else◌}
 use Rattle.std.specs.Prelude.{All}
 use Rattle.std.specs.List.{filter}
 use Rattle.std.proofs.lemmas.List.Elements.{All-append, All-cons, All-head, All-nil, All-tail}
@@ -30,11 +30,21 @@ module _ {A B : Type 0} (draw : A → Look → B) where
       ap (λ items. (if flag then draw k look ∷ [] else []) ++ items) (next keys looks flags i key (omega (arith, within)) at)
       ∙ sym (append_assoc (if flag then draw k look ∷ [] else []) (drawn draw (take i keys) looks flags) (drawn_with draw key (visible_look looks flags i)))
 
-  pub one_more : (keys : List A) (looks : List Look) (flags : List Bool) (i : ℕ) (key : A) (found : Option Look) → i < length keys → key ≡ get_or keys i key → found ≡ visible_look looks flags i
-      → drawn draw (take i keys) looks flags ++ drawn_with draw key found ≡ drawn draw (take (i + 1) keys) looks flags
-  one_more keys looks flags i key found within at is =
-      ap (λ (o : Option Look). drawn draw (take i keys) looks flags ++ drawn_with draw key o) is
-      ∙ (sym (next keys looks flags i key within at) ∙ ap (λ (n : ℕ). drawn draw (take n keys) looks flags) (sym (add-one i)))
+  module _ (keys : List A) (looks : List Look) (flags : List Bool) (i : ℕ) (key : A) (within : i < length keys) (at : key ≡ get_or keys i key) (before after : List B) (so_far : before ≡ drawn draw (take i keys) looks flags) where
+    goes_on : (found : Option Look) → found ≡ visible_look looks flags i → after ≡ before ++ drawn_with draw key found → after ≡ drawn draw (take (i + 1) keys) looks flags
+    goes_on found is more =
+        more
+        ∙ (ap (λ items. items ++ drawn_with draw key found) so_far
+        ∙ (ap (λ (o : Option Look). drawn draw (take i keys) looks flags ++ drawn_with draw key o) is
+        ∙ (sym (next keys looks flags i key within at) ∙ ap (λ (n : ℕ). drawn draw (take n keys) looks flags) (sym (add-one i)))))
+
+    -- a key is drawn with this look
+    pub one_more : (look : Look) (made : B) → Some look ≡ visible_look looks flags i → made ≡ draw key look → after ≡ before ++ made ∷ [] → after ≡ drawn draw (take (i + 1) keys) looks flags
+    one_more look made is drawn_so more = goes_on (Some look) is (more ∙ ap (λ item. before ++ item ∷ []) drawn_so)
+
+    -- a key is not drawn
+    pub no_more : None ≡ visible_look looks flags i → after ≡ before → after ≡ drawn draw (take (i + 1) keys) looks flags
+    no_more is same = goes_on None is (same ∙ sym (append-nil before))
 
   -- ---- what is true of all that is drawn
 

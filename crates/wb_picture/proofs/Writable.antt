@@ -1,5 +1,5 @@
 -- A picture can be written, with the names of the viewpoint's mappings.
-use Rattle.std.proofs.Common.{◌≡◌, ◌-◌, ◌<◌, ℕ, Bool, refl, List, [], ◌∷◌, ◌++◌, length, map, Option, Some, sym, ap, subst, arith, drop}
+use Rattle.std.proofs.Common.{◌≡◌, ◌-◌, ◌<◌, ℕ, Bool, refl, List, [], ◌∷◌, ◌++◌, length, map, Some, sym, ap, subst, arith, drop}
 use Rattle.std.specs.Prelude.{All, option_map}
 use Rattle.std.specs.List.{filter}
 use Rattle.std.proofs.lemmas.List.{length-map}
@@ -10,7 +10,6 @@ use Rattle.wb_diagram.specs.Keys.{IsPath, JoinsPaths, own_pair}
 use Rattle.wb_diagram.specs.Units.{NamesPaths}
 use Rattle.wb_diagram.specs.declared.diagrams.Edge.{Edge}
 use Rattle.wb_diagram.specs.declared.diagrams.Element.{Element}
-use Rattle.wb_diagram.specs.declared.diagrams.Look.{Look}
 use Rattle.wb_diagram.specs.declared.diagrams.Problem.{Problem}
 use Rattle.wb_diagram.specs.declared.keys.AnyKey.{AnyKey}
 use Rattle.wb_diagram.specs.declared.keys.AnyKey.TheVariants.{Node as NodeKey, Edge as EdgeKeyOf}
