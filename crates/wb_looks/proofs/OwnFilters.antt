@@ -1,5 +1,5 @@
 -- How many filters a checked viewpoint has.
-use Rattle.std.proofs.Common.{◌≡◌, ◌≤◌, ℕ, true, length}
+use Rattle.std.proofs.Common.{◌≡◌, ◌≤◌, true, length}
 use Rattle.std.proofs.lemmas.Bool.{and_parts, leb-true}
 use Rattle.wb_viewpoint.specs.Limits.{is_small}
 use Rattle.wb_viewpoint.specs.declared.content.Content.{Content}

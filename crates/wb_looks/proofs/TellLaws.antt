@@ -1,12 +1,11 @@
 -- The conditions tell which keys are clear.
-use Rattle.std.proofs.Common.{◌≡◌, ◌<◌, ◌≤◌, ℕ, Bool, false, not, ◌&&◌, List, [], length, map, Option, Some, None, refl, sym, ap, ◌∙◌, subst, ⊎_elim, arith}
+use Rattle.std.proofs.Common.{◌≡◌, ◌<◌, ◌≤◌, ℕ, Bool, false, not, ◌&&◌, List, [], length, map, Option, Some, None, refl, sym, ap, ◌∙◌, ⊎_elim, arith}
 use Rattle.std.specs.Prelude.{nat_eq, option_map, slice_get, unwrap_or}
 use Rattle.std.specs.Option.{option_map_or}
 use Rattle.std.specs.List.{list_any}
 use Rattle.std.proofs.lemmas.Bool.{cases_lt}
 use Rattle.std.proofs.lemmas.List.FromFn.{length-map-range_with_len}
 use Rattle.std.proofs.lemmas.Option.{slice_get-map, slice_get_past}
-use Rattle.wb_base.specs.Lists.{numbers}
 use Rattle.wb_base.specs.Options.{◌>>=◌}
 use Rattle.wb_base.proofs.ListLemmas.{number-at}
 use Rattle.wb_diagram.specs.declared.keys.AnyKey.{AnyKey}
@@ -16,11 +15,11 @@ use Rattle.wb_spec_check.specs.Units.{mapping_of_key}
 use Rattle.wb_spec_check.specs.declared.checked_filters.CheckedFilter.{CheckedFilter}
 use Rattle.wb_spec_check.specs.declared.checked_mappings.CheckedMapping.{CheckedMapping}
 use Rattle.wb_answers.specs.Meanings.{is_true}
+use Rattle.wb_answers.specs.SameKeys.{same_any}
 use Rattle.wb_answers.specs.Seen.{Told}
 use Rattle.wb_looks.specs.Conditions.{SameMarks, Tell, active_mappings, is_clear_at, is_flagged, is_on_active}
-use Rattle.wb_looks.specs.Filters.{filter_numbers, filtered, hides, is_filtered, mappings_of_filter}
+use Rattle.wb_looks.specs.Filters.{filter_numbers, filtered, hides, is_filtered}
 use Rattle.wb_looks.specs.Visible.{Switches, is_active, is_clear, is_on_active_layer}
-use Rattle.wb_answers.specs.SameKeys.{same_any}
 use Rattle.wb_looks.specs.declared.conditions.Conditions.{Conditions}
 
 -- ---- filters

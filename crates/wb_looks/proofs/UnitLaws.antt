@@ -1,8 +1,6 @@
 -- What is true of all units of looks and filters: the viewpoint has their expressions, and they name paths where the keys are paths.
-use Rattle.std.proofs.Common.{◌≡◌, ℕ, Bool, true, false, List, [], ◌∷◌, Option, Some, None, refl, sym, ap, ◌∙◌, if◌then◌else◌}
-use Rattle.std.specs.Prelude.{⊤, All, IsSome, flat_map, nat_eq, option_map, slice_get}
-use Rattle.std.specs.Option.{option_map_or}
-use Rattle.std.specs.List.{list_any}
+use Rattle.std.proofs.Common.{◌≡◌, ℕ, Bool, true, false, List, [], ◌∷◌, Option, Some, None, refl, sym, ◌∙◌, if◌then◌else◌}
+use Rattle.std.specs.Prelude.{⊤, All, IsSome, flat_map, option_map, slice_get}
 use Rattle.std.proofs.lemmas.List.Elements.{All-append, All-cons, All-head, All-nil, All-tail}
 use Rattle.wb_diagram.specs.Keys.{IsWritable}
 use Rattle.wb_diagram.specs.Units.{NamesPaths}

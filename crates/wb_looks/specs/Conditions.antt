@@ -1,5 +1,5 @@
 -- What the code goes by where it asks whether a key is clear or blocked.
-use Rattle.std.specs.Prelude.{◌≡◌, ℕ, Bool, true, false, not, ◌&&◌, ◌||◌, List, map, slice_get, unwrap_or, Some}
+use Rattle.std.specs.Prelude.{◌≡◌, ℕ, Bool, true, false, not, ◌&&◌, List, map, slice_get, unwrap_or, Some}
 use Rattle.std.specs.Option.{option_map_or}
 use Rattle.std.specs.List.{list_any}
 use Rattle.wb_diagram.specs.declared.keys.AnyKey.{AnyKey}

@@ -1,4 +1,4 @@
-use Rattle.std.proofs.Common.{◌≡◌, Bool, take}
+use Rattle.std.proofs.Common.{Bool, take}
 use Rattle.wb_diagram.specs.declared.keys.AnyKey.{AnyKey}
 use Rattle.wb_looks.specs.Conditions.{Block, Tell}
 use Rattle.wb_looks.proofs.visibility.blocked.Given as goal
