@@ -6,12 +6,11 @@ use Rattle.std.proofs.lemmas.Bool.{and_parts, eqb-true}
 use Rattle.std.proofs.lemmas.List.Folds.{list_any_more}
 use Rattle.wb_diagram.specs.declared.keys.AnyKey.{AnyKey}
 use Rattle.wb_diagram.specs.declared.keys.AnyKey.TheVariants.{Node, Edge}
-use Rattle.wb_diagram.specs.declared.keys.EdgeKey.{EdgeKey}
 use Rattle.wb_diagram.specs.declared.keys.Key.{Key}
 use Rattle.wb_diagram.specs.declared.keys.Pair.{Pair}
 use Rattle.wb_diagram.specs.contracts.keys.AnyKeyPartialEq.TheImpl.{eq-value}
 use Rattle.wb_answers.specs.SameKeys.{same_key, same_pair, same_any}
-use Rattle.wb_answers.proofs.SameKeyLaws.{key_symm, key_equiv, edge_equiv}
+use Rattle.wb_answers.proofs.SameKeyLaws.{key_symm, edge_equiv}
 
 -- ---- keys of elements
 
