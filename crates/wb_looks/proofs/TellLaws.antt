@@ -15,11 +15,11 @@ use Rattle.wb_spec_check.specs.Units.{mapping_of_key}
 use Rattle.wb_spec_check.specs.declared.checked_filters.CheckedFilter.{CheckedFilter}
 use Rattle.wb_spec_check.specs.declared.checked_mappings.CheckedMapping.{CheckedMapping}
 use Rattle.wb_answers.specs.Meanings.{is_true}
+use Rattle.wb_answers.specs.SameKeys.{same_any}
 use Rattle.wb_answers.specs.Seen.{Told}
 use Rattle.wb_looks.specs.Conditions.{SameMarks, Tell, active_mappings, is_clear_at, is_flagged, is_on_active}
 use Rattle.wb_looks.specs.Filters.{filter_numbers, filtered, hides, is_filtered}
 use Rattle.wb_looks.specs.Visible.{Switches, is_active, is_clear, is_on_active_layer}
-use Rattle.wb_answers.specs.SameKeys.{same_any}
 use Rattle.wb_looks.specs.declared.conditions.Conditions.{Conditions}
 
 -- ---- filters

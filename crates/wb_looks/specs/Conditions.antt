@@ -7,9 +7,8 @@ use Rattle.wb_diagram.specs.declared.keys.AnyKey.TheVariants.{Node, Edge}
 use Rattle.wb_diagram.specs.declared.keys.Key.{Key}
 use Rattle.wb_spec_check.specs.Units.{mapping_of_key}
 use Rattle.wb_spec_check.specs.declared.checked_mappings.CheckedMapping.{CheckedMapping}
-use Rattle.wb_answers.specs.SameKeys.{among, same_key}
+use Rattle.wb_answers.specs.SameKeys.{among, same_any, same_key}
 use Rattle.wb_looks.specs.Visible.{is_active, is_node_visible}
-use Rattle.wb_answers.specs.SameKeys.{same_any}
 use Rattle.wb_looks.specs.declared.conditions.Conditions.{Conditions}
 
 -- by mapping, whether its layer is active

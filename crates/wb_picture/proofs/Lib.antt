@@ -3,3 +3,4 @@ pub mod Numbering
 pub mod FewLayers
 pub mod Shown
 pub mod Writable
+pub mod AllKeys

@@ -1,4 +1,5 @@
-use Rattle.std.proofs.Common.{◌+◌, sym}
+use Rattle.std.proofs.Common.{◌+◌, sym, take}
+use Rattle.std.specs.List.{flat_map}
 use Rattle.wb_diagram.specs.declared.keys.AnyKey.{AnyKey}
 use Rattle.wb_answers.specs.Seen.{Told}
 use Rattle.wb_answers.proofs.SeenLaws.{after_none}
@@ -29,7 +30,7 @@ loop-key-preserved g c =
     let f = λ (t : Told). filter_unit c.args.spec.now c.args.filter in
     let s = g.A.Answers.seen c.args.answers.now in
     let h = λ (t : Told) (k : AnyKey). hides c.args.spec.now t c.args.filter k in
-    let value = found_before (λ (t : Told). h t c.key-item.result) s _ _ _ c.loop-key.invariant.asked c.in_ok-hides.ensures.value in
+    let value = found_before (λ (t : Told). h t c.key-item.result) s _ (flat_map (filter_unit c.args.spec.now c.args.filter) (take c.loop-key.key-index c.args.keys.now)) _ c.loop-key.invariant.asked c.in_ok-hides.ensures.value in
     record {
       flags = mapped_on (h s.told) c.args.keys.now c.loop-key.key-index c.key-item.result c.key-item.result _ _ _ c.loop-key-test.true c.key-item.is c.loop-key.invariant.flags value c.in_ok-push.ensures.items;
       asked = goes_on f c.args.keys.now c.loop-key.key-index c.key-item.result c.key-item.result s _ _ c.loop-key-test.true c.key-item.is c.loop-key.invariant.asked c.in_ok-hides.ensures.asks;
