@@ -7,6 +7,7 @@ use Rattle.std.proofs.lemmas.List.{map-append}
 use Rattle.std.proofs.lemmas.List.Sums.{sum_by-append}
 use Rattle.std.proofs.lemmas.Grind.{common_steps}
 use Rattle.wb_diagram.specs.declared.units.Unit.{Unit as Place}
+use Rattle.wb_spec_check.specs.Checked.{IsGood}
 use Rattle.wb_answers.specs.Limits.{AsksUpTo}
 use Rattle.wb_answers.specs.Seen.{Seen, after, Stopped}
 use Rattle.wb_answers.specs.declared.answers.Stop.{Stop}
@@ -19,6 +20,8 @@ use Rattle.wb_refresh.specs.Outcomes.{Gives, cost, row, told}
 use Rattle.wb_refresh.specs.Subjects.{Subject, scene}
 use Rattle.wb_refresh.specs.Tables.{Evaluated, none_evaluated, seen_by}
 use Rattle.wb_refresh.specs.Weights.{is_over, weight_of}
+use Rattle.wb_refresh.proofs.Counting.{all_counted}
+use Rattle.wb_refresh.proofs.DiagramLaws.{units_have_expressions}
 
 -- ---- tests
 
@@ -87,7 +90,7 @@ module _ (gives : Gives) (s : Subject) (count : ℕ) (names : List GName) (now :
       (λ many. other_way (is_over rows) (size_of (scene s) (told gives s.setting)) many)
       large
 
-pub ends : {A : Type 0} (gives : Gives) (s : Subject) (count risen : ℕ) (names names_now : List GName) (t now : Evaluated) (r : Result A Stop) → t ≡ none_evaluated s.setting
+ends : {A : Type 0} (gives : Gives) (s : Subject) (count risen : ℕ) (names names_now : List GName) (t now : Evaluated) (r : Result A Stop) → t ≡ none_evaluated s.setting
     → sum_by (cost s.setting) (all_units gives s) ≡ length (all_units gives s)
     → AsksUpTo (seen_by gives t count names) (units_of (scene s) (told gives t.setting)) (size_of (scene s) (told gives t.setting)) r (seen_by gives now risen names_now)
     → Ends gives s count r now risen × (names_now ≡ names)
@@ -125,3 +128,10 @@ ends {A} gives s count risen names names_now t now r fresh each asks =
           },
           asks.stopped.lenders,
         )
+
+-- the same in a viewpoint that was checked
+pub all_ends : {A : Type 0} (gives : Gives) (s : Subject) (count risen : ℕ) (names names_now : List GName) (t now : Evaluated) (r : Result A Stop) → t ≡ none_evaluated s.setting → IsGood s.setting.spec
+    → AsksUpTo (seen_by gives t count names) (units_of (scene s) (told gives t.setting)) (size_of (scene s) (told gives t.setting)) r (seen_by gives now risen names_now)
+    → Ends gives s count r now risen × (names_now ≡ names)
+all_ends gives s count risen names names_now t now r fresh good asks =
+    ends gives s count risen names names_now t now r fresh (all_counted s.setting (all_units gives s) (units_have_expressions (scene s) (told gives s.setting) good)) asks

@@ -5,5 +5,6 @@ pub mod Asking
 pub mod Counting
 pub mod DiagramLaws
 pub mod Ended
+pub mod Opened
 pub mod GoingOn
 pub mod Showing

@@ -15,18 +15,18 @@ use wb_diagram::Unit;
 #[derive(Drop)]
 pub struct Evaluating<'a, 'b, E: Evaluator> {
     pub steps: &'a mut E,
-    pub table: Table<'b>,
+    pub table: &'a mut Table<'b>,
 }
 
 impl<E: Evaluator> Answers for Evaluating<'_, '_, E> {
     ghost use Rattle.std.specs.Prelude.{[], ◌∷◌};
     ghost use Rattle.wb_refresh.specs.Tables.{seen_by};
 
-    ghost seen = { λ p. seen_by E.outcome_by p.table (E.count p.steps.now) (p.steps.ghost_name ∷ []) };
+    ghost seen = { λ p. seen_by E.outcome_by p.table.now (E.count p.steps.now) (p.steps.ghost_name ∷ p.table.ghost_name ∷ []) };
 
     fn answer(&mut self, alloc: Global, unit: &Unit) -> Result<Answer, Stop> {
         let outcome = self.table.evaluate(alloc, unit, self.steps)?;
-        keep(alloc, &mut self.table, unit, outcome)
+        keep(alloc, self.table, unit, outcome)
     }
 }
 

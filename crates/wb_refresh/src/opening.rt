@@ -25,10 +25,10 @@ use wb_spec_check::CheckedViewpoint;
 ///
 /// `TooLarge` comes where there are more than 100,000 units, or elements and edges together, or where all outcomes
 /// together weigh more than 2,000,000.
-pub fn open<E: Evaluator>(
+pub fn open<'x, E: Evaluator>(
     alloc: Global,
-    spec: &CheckedViewpoint,
-    model: &Model,
+    spec: &'x CheckedViewpoint,
+    model: &'x Model,
     root: ObjectId,
     shown: &[Key],
     steps: &mut E,
@@ -41,25 +41,36 @@ pub fn open<E: Evaluator>(
     ensures most { E.count steps.new ≤ E.count steps.old + length (all_units E.outcome_by (subject spec.now model.now root shown.now)) }
     ensures least { E.count steps.old ≤ E.count steps.new }
 {
-    let mut evaluating = Evaluating {
-        steps,
-        table: Table::new(alloc, spec, model, root),
-    };
-    let declared = evaluate_all(alloc, shown, &mut evaluating)?;
-    let Evaluating { steps: _, table } = evaluating;
+    let mut table = Table::new(alloc, spec, model, root);
+    let declared = evaluate_all(alloc, shown, &mut table, steps)?;
     Ok(Refresh::new(alloc, declared, table)?)
 }
 
 // What is declared; all units are evaluated, and their outcomes kept.
-fn evaluate_all<E: Evaluator>(
+fn evaluate_all<'x, E: Evaluator>(
+    alloc: Global,
+    shown: &[Key],
+    table: &'x mut Table<'_>,
+    steps: &'x mut E,
+) -> Result<Declared, Stop>
+    requires { table.old ≡ none_evaluated table.old.setting }
+    ensures declared { let s = subject_in table.old.setting shown.now in IfOk result (AreDeclared (scene s) (told E.outcome_by s.setting)) }
+    ensures ends { Ends E.outcome_by (subject_in table.old.setting shown.now) (E.count steps.old) result table.new (E.count steps.new) }
+{
+    let mut evaluating = Evaluating { steps, table };
+    declare_in(alloc, shown, &mut evaluating)
+}
+
+fn declare_in<E: Evaluator>(
     alloc: Global,
     shown: &[Key],
     evaluating: &mut Evaluating<'_, '_, E>,
 ) -> Result<Declared, Stop>
-    requires { evaluating.old.table ≡ none_evaluated evaluating.old.table.setting }
-    ensures declared { let s = subject_in evaluating.old.table.setting shown.now in IfOk result (AreDeclared (scene s) (told E.outcome_by s.setting)) }
-    ensures ends { Ends E.outcome_by (subject_in evaluating.old.table.setting shown.now) (E.count evaluating.old.steps.now) result evaluating.new.table (E.count evaluating.new.steps.now) }
+    requires { evaluating.old.table.now ≡ none_evaluated evaluating.old.table.now.setting }
+    ensures declared { let s = subject_in evaluating.old.table.now.setting shown.now in IfOk result (AreDeclared (scene s) (told E.outcome_by s.setting)) }
+    ensures ends { Ends E.outcome_by (subject_in evaluating.old.table.now.setting shown.now) (E.count evaluating.old.steps.now) result evaluating.new.table.now (E.count evaluating.new.steps.now) }
     ensures same_steps { evaluating.new.steps.ghost_name ≡ evaluating.old.steps.ghost_name }
+    ensures same_table { evaluating.new.table.ghost_name ≡ evaluating.old.table.ghost_name }
 {
     let spec = evaluating.table.spec();
     let model = evaluating.table.model();
