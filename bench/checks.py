@@ -7,7 +7,8 @@ Each mapping has 32 conditional styles, each of as many tools has 256 operations
 """
 import json, os, subprocess, tempfile, time
 
-from draw import PROGRAM, TOP, cost
+from costs import TOP, cost
+from draw import PROGRAM
 
 METAMODEL = os.path.join(TOP, "crates/cases_program/data/library.metamodel.json")
 

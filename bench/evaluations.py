@@ -7,8 +7,8 @@ Half of the books have a loan. What reading the model costs is taken off: it is 
 is counted.
 """
 import json, os, tempfile
-from draw import TOP, cost
-from models import METAMODEL, link, seconds
+from costs import TOP, cost, run
+from models import METAMODEL, link
 
 PROGRAM = os.path.join(TOP, "crates/cases_evaluation/out/cases_evaluation")
 EXPRESSIONS = ["self.books->select(b | b.loans->isEmpty())->size()", "self.eAllContents()->size()", "self.books.title->size()"]
@@ -45,11 +45,11 @@ def main():
             reading, unit = cost([PROGRAM, METAMODEL, model, nothing], folder)
             for expression in EXPRESSIONS:
                 words = [PROGRAM, METAMODEL, model, write(folder, "expression", f"1 {expression}\n")]
-                took, status = seconds(words)
+                done = run(words)
                 value = cost(words, folder)[0] - reading
                 times = f", {value / before[expression]:.1f} times the one before" if expression in before else ""
                 before[expression] = value
-                print(f"{books:6} books, {expression}: status {status}, {took:.2f} s with reading, {value:,} {unit}{times}", flush=True)
+                print(f"{books:6} books, {expression}: status {done.status}, {done.seconds:.2f} s with reading, {value:,} {unit}{times}", flush=True)
 
 
 if __name__ == "__main__":

@@ -6,7 +6,7 @@ Usage, from the top of the checkout, after `(cd crates/cases_syntax && rt run)` 
 Instructions are counted with valgrind's callgrind where it is installed; else seconds over repeated runs.
 """
 import os, tempfile
-from draw import TOP, cost
+from costs import TOP, cost
 
 PROGRAM = os.path.join(TOP, "crates/cases_syntax/out/cases_syntax")
 

@@ -7,8 +7,8 @@ Each metamodel has 1,000 classes and 10,000 features, and beside them 1,000 enum
 viewpoint and a model of one object, so that the metamodel is nearly all that it costs.
 """
 import json, os, subprocess, tempfile, time
+from costs import TOP
 
-TOP = os.path.dirname(os.path.dirname(os.path.abspath(__file__)))
 PROGRAM = os.path.join(TOP, "crates/workbench/out/workbench")
 
 # the supertypes of class c

@@ -6,8 +6,8 @@ Usage, from the top of the checkout, after `rt ci` has built the program of `cas
 A library has books, authors, members, and loans with a book and a member each. Instructions are counted with valgrind's callgrind where it
 is installed; seconds are those of one run. What `write` and `set` cost beyond reading is the difference to `read`.
 """
-import json, os, subprocess, tempfile, time
-from draw import TOP, cost
+import json, os, tempfile
+from costs import TOP, cost, run
 
 PROGRAM = os.path.join(TOP, "crates/cases_models/out/cases_models")
 METAMODEL = os.path.join(TOP, "crates/cases_models/data/library.metamodel.json")
@@ -49,12 +49,6 @@ def scripts(count):
     return {"read": "", "write": "write", "set": "\n".join(edits)}
 
 
-def seconds(words):
-    start = time.perf_counter()
-    done = subprocess.run(words, stdout=subprocess.DEVNULL).returncode
-    return time.perf_counter() - start, done
-
-
 def main():
     first = {}
     with tempfile.TemporaryDirectory() as folder:
@@ -67,10 +61,10 @@ def main():
                 with open(asked, "w") as file:
                     file.write(script)
                 words = [PROGRAM, METAMODEL, path, asked]
-                took, status = seconds(words)
+                done = run(words)
                 value, unit = cost(words, folder)
                 first.setdefault(task, value)
-                print(f"{count:6} objects, {task:5}: status {status}, {took:.2f} s, {value:,} {unit}, {value / first[task]:.1f} times the first", flush=True)
+                print(f"{count:6} objects, {task:5}: status {done.status}, {done.seconds:.2f} s, {value:,} {unit}, {value / first[task]:.1f} times the first", flush=True)
 
 
 if __name__ == "__main__":

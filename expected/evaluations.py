@@ -332,12 +332,11 @@ def written(text):
 
 class Evaluation:
     def __init__(self, model):
-        self.model, self.metamodel, self.reads = model, model.metamodel, []
+        self.model, self.metamodel, self.reads = model, model.metamodel, {}
 
-    # every look at the model stands here
+    # every look at the model stands here: cells in the order of the first look
     def look(self, cell, content):
-        if cell not in self.reads:
-            self.reads.append(cell)
+        self.reads.setdefault(cell)
         return content
 
     def kind(self, o):

@@ -4,7 +4,7 @@ use crate::shown::{key, push_position};
 use std::alloc::{AllocError, Global};
 use wb_base::Duplicate;
 use wb_history::History;
-use wb_layout::Layout;
+use wb_layout::{Layout, LayoutLog};
 
 /// Goes one step back, from what stands now; `None` where nothing can be undone.
 fn undo<E: Drop>(history: &mut History<E>, now: E) -> Option<E> {
@@ -76,10 +76,11 @@ fn push_few(alloc: Global, shown: &mut String) -> Result<(), AllocError> {
 /// A position is dropped with its element, and comes back with undo.
 fn push_dropped(alloc: Global, shown: &mut String) -> Result<(), AllocError> {
     let mut layout = Layout::new(alloc);
-    place(alloc, &mut layout, "1.6-2.2", 5, 5)?;
+    let mut log = LayoutLog::new();
+    place(alloc, &mut layout, "1.6-2.2", 5, 5, &mut log)?;
     let mut history = History::new(alloc, 100)?;
     history.push(layout.copy(alloc)?);
-    layout.restrict(alloc, &[key(alloc, "1.7-2.2")?])?;
+    layout.restrict(alloc, &[key(alloc, "1.7-2.2")?], &mut log)?;
     push_position(alloc, shown, &layout, "1.6-2.2")?;
     match undo(&mut history, layout) {
         Some(layout) => push_position(alloc, shown, &layout, "1.6-2.2"),

@@ -2,7 +2,7 @@
 use crate::shown::{key, keys, push_position, push_positions};
 use std::alloc::{AllocError, Global};
 use wb_diagram::Key;
-use wb_layout::{Layout, is_in_range};
+use wb_layout::{Layout, LayoutLog, is_in_range};
 
 /// Two books and an author with a list item, and a member: those that can be placed, in declared order.
 const LIBRARY: [&str; 4] = ["0.2", "0.3", "1.6", "3.4"];
@@ -26,23 +26,32 @@ const PLACES: [(&str, i64, i64); 6] = [
     ("0.2", 3, -4),
 ];
 
+/// One that is moved, one that is laid, and one that is dropped.
+const CHANGED: [&str; 3] = ["0.2", "0.3", "1.6-2.2"];
+
 pub fn place(
     alloc: Global,
     layout: &mut Layout,
     text: &str,
     x: i64,
     y: i64,
+    log: &mut LayoutLog,
 ) -> Result<(), AllocError> {
     if is_in_range(x, y) {
-        layout.place(alloc, key(alloc, text)?, x, y)?;
+        layout.place(alloc, key(alloc, text)?, x, y, log)?;
     }
     Ok(())
 }
 
-fn arrange(alloc: Global, layout: &mut Layout, texts: &[&str]) -> Result<(), AllocError> {
+fn arrange(
+    alloc: Global,
+    layout: &mut Layout,
+    texts: &[&str],
+    log: &mut LayoutLog,
+) -> Result<(), AllocError> {
     let placeable = keys(alloc, texts)?;
     if placeable.len() <= 100_000 {
-        layout.arrange(alloc, placeable.as_slice())?;
+        layout.arrange(alloc, placeable.as_slice(), log)?;
     }
     Ok(())
 }
@@ -69,17 +78,23 @@ pub fn push(alloc: Global, shown: &mut String) -> Result<(), AllocError> {
     push_library(alloc, shown)?;
     push_shelves(alloc, shown)?;
     push_places(alloc, shown)?;
-    push_two_containers(alloc, shown)
+    push_two_containers(alloc, shown)?;
+    push_reversed(alloc, shown)
 }
 
 /// The grid of one parent, over a position that was given by hand; then only two of the elements are still declared.
 fn push_library(alloc: Global, shown: &mut String) -> Result<(), AllocError> {
     let mut layout = Layout::new(alloc);
+    let mut log = LayoutLog::new();
     push_keys(shown, &layout)?;
-    place(alloc, &mut layout, "0.3", 7, 8)?;
-    arrange(alloc, &mut layout, &LIBRARY)?;
+    place(alloc, &mut layout, "0.3", 7, 8, &mut log)?;
+    arrange(alloc, &mut layout, &LIBRARY, &mut log)?;
     push_positions(alloc, shown, &layout, &ELEMENTS)?;
-    layout.restrict(alloc, keys(alloc, &["3.4", "0.3", "0.7"])?.as_slice())?;
+    layout.restrict(
+        alloc,
+        keys(alloc, &["3.4", "0.3", "0.7"])?.as_slice(),
+        &mut log,
+    )?;
     push_positions(alloc, shown, &layout, &ELEMENTS)?;
     push_keys(shown, &layout)
 }
@@ -87,8 +102,9 @@ fn push_library(alloc: Global, shown: &mut String) -> Result<(), AllocError> {
 /// The grids of three parents, beside a position that stays.
 fn push_shelves(alloc: Global, shown: &mut String) -> Result<(), AllocError> {
     let mut layout = Layout::new(alloc);
-    place(alloc, &mut layout, "0.10", -5, 6)?;
-    arrange(alloc, &mut layout, &SHELVES)?;
+    let mut log = LayoutLog::new();
+    place(alloc, &mut layout, "0.10", -5, 6, &mut log)?;
+    arrange(alloc, &mut layout, &SHELVES, &mut log)?;
     push_positions(alloc, shown, &layout, &SHELVES)?;
     push_position(alloc, shown, &layout, "0.10")?;
     push_keys(shown, &layout)
@@ -96,8 +112,9 @@ fn push_shelves(alloc: Global, shown: &mut String) -> Result<(), AllocError> {
 
 fn push_places(alloc: Global, shown: &mut String) -> Result<(), AllocError> {
     let mut layout = Layout::new(alloc);
+    let mut log = LayoutLog::new();
     for (text, x, y) in PLACES {
-        place(alloc, &mut layout, text, x, y)?;
+        place(alloc, &mut layout, text, x, y, &mut log)?;
     }
     push_positions(alloc, shown, &layout, &["0.1", "0.2", "0.3", "0.4", "0.5"])
 }
@@ -105,7 +122,26 @@ fn push_places(alloc: Global, shown: &mut String) -> Result<(), AllocError> {
 /// One book in two containers has two positions.
 fn push_two_containers(alloc: Global, shown: &mut String) -> Result<(), AllocError> {
     let mut layout = Layout::new(alloc);
-    place(alloc, &mut layout, "1.6-2.2", 1, 1)?;
-    place(alloc, &mut layout, "1.7-2.2", 2, 2)?;
+    let mut log = LayoutLog::new();
+    place(alloc, &mut layout, "1.6-2.2", 1, 1, &mut log)?;
+    place(alloc, &mut layout, "1.7-2.2", 2, 2, &mut log)?;
     push_positions(alloc, shown, &layout, &["1.6-2.2", "1.7-2.2", "0.2"])
+}
+
+/// Three changes of one log are taken back together, and made again; a log of none changes nothing.
+fn push_reversed(alloc: Global, shown: &mut String) -> Result<(), AllocError> {
+    let mut layout = Layout::new(alloc);
+    let mut first = LayoutLog::new();
+    place(alloc, &mut layout, "0.2", 1, 2, &mut first)?;
+    place(alloc, &mut layout, "1.6-2.2", 3, 4, &mut first)?;
+    let mut log = LayoutLog::new();
+    place(alloc, &mut layout, "0.2", 5, 6, &mut log)?;
+    layout.restrict(alloc, keys(alloc, &["0.3", "0.2"])?.as_slice(), &mut log)?;
+    arrange(alloc, &mut layout, &["0.3"], &mut log)?;
+    push_positions(alloc, shown, &layout, &CHANGED)?;
+    let again = layout.reverse(log);
+    push_positions(alloc, shown, &layout, &CHANGED)?;
+    let _back = layout.reverse(again);
+    let _none = layout.reverse(LayoutLog::new());
+    push_positions(alloc, shown, &layout, &CHANGED)
 }

@@ -1,10 +1,10 @@
-//! The cases of a file, each an object of JSON: its name, its words, its files (each the name on the shelf, and the file of
-//! `data/` that stands there, or `text` and the text, or `spaces` and how many) and the numbers of the calls of shelf and sink that fail.
+//! The cases of a file, each an object of JSON: its name, its words, its files and the numbers of the calls of shelf and sink that fail.
+use crate::files::{file_in, file_of};
 use crate::runs::push_run;
 use std::alloc::Global;
 use wb_base::{List, Text};
 use wb_json::{Value, Wrong, list_or_empty, needed, parse_json};
-use wb_outer::{Bytes, MemoryShelf, MemorySink, Shelf, Taken};
+use wb_outer::{Bytes, MemoryShelf, MemorySink, Shelf};
 
 /// Puts what each case of a file shows last.
 pub fn push_cases<H: Shelf>(
@@ -89,50 +89,6 @@ fn files_of<H: Shelf>(
         files.push(file_of(alloc, from, pair.as_slice())?)?;
     }
     Ok(files)
-}
-
-/// A file under the name that it has on the shelf.
-fn file_of<H: Shelf>(alloc: Global, from: &mut H, pair: &[Text]) -> Result<(Bytes, Bytes), Wrong> {
-    match pair {
-        [name, file] => {
-            let bytes = file_in(alloc, from, file.as_slice())?;
-            Ok((Bytes::from_slice(alloc, name.as_slice())?, bytes))
-        }
-        [name, sort, told] => {
-            let bytes = made(alloc, sort.as_str(), told.as_str())?;
-            Ok((Bytes::from_slice(alloc, name.as_slice())?, bytes))
-        }
-        _ => Err(Wrong::here(alloc)),
-    }
-}
-
-/// The text itself, or so many spaces.
-fn made(alloc: Global, sort: &str, told: &str) -> Result<Bytes, Wrong> {
-    if sort == "text" {
-        return Ok(Bytes::from_slice(alloc, told.as_bytes())?);
-    }
-    spaces(alloc, told)
-}
-
-/// So many spaces.
-fn spaces(alloc: Global, count: &str) -> Result<Bytes, Wrong> {
-    match count.parse::<u32>() {
-        Ok(count) => {
-            let mut bytes = Vec::new(alloc);
-            for _ in 0..count {
-                bytes.push(b' ')?;
-            }
-            Ok(Bytes::from_vec(bytes))
-        }
-        Err(_) => Err(Wrong::here(alloc)),
-    }
-}
-
-fn file_in<H: Shelf>(alloc: Global, from: &mut H, name: &[u8]) -> Result<Bytes, Wrong> {
-    match from.take(alloc, name)? {
-        Taken::Bytes(bytes) => Ok(bytes),
-        Taken::TooBig | Taken::Failed => Err(Wrong::here(alloc)),
-    }
 }
 
 /// The numbers of the calls of an object that fail.

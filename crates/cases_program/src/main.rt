@@ -2,6 +2,7 @@
 #![tactic(auto)]
 
 mod cases;
+mod files;
 mod runs;
 
 use crate::cases::push_cases;

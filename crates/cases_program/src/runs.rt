@@ -1,11 +1,15 @@
 //! One run of the top call, and what it shows: the names that were asked, the status and what the sink got.
-use std::alloc::Global;
+use md5::{Digest, Md5};
+use std::alloc::{AllocError, Global};
 use wb_json::Wrong;
 use wb_outer::{Bytes, MemoryShelf, MemorySink, Steps, SureDoor, SureKeeper};
 use wb_program::{Status, workbench};
 
 /// The label of the count of evaluations.
 struct Evaluations;
+
+/// How many bytes of the sink are printed as they are.
+const LONG: usize = 16384;
 
 /// Runs on these words, and puts what the run shows last.
 pub fn push_run(
@@ -46,12 +50,20 @@ fn push_asked(alloc: Global, shown: &mut String, names: &[Bytes]) -> Result<(), 
     Ok(())
 }
 
-/// The number of the bytes, and the bytes themselves.
+/// The number of the bytes, and the bytes themselves, or of many their MD5.
 fn push_sink(alloc: Global, shown: &mut String, bytes: &[u8]) -> Result<(), Wrong> {
+    if bytes.len() > LONG {
+        return Ok(push_digest(shown, bytes)?);
+    }
     write!(shown, "sink {}\n", bytes.len())?;
     push_text(alloc, shown, bytes)?;
     shown.push('\n')?;
     Ok(())
+}
+
+fn push_digest(shown: &mut String, bytes: &[u8]) -> Result<(), AllocError> {
+    let digest = u128::from_be_bytes(Md5::digest(bytes));
+    write!(shown, "sink {} md5 {digest:032x}\n", bytes.len())
 }
 
 fn push_text(alloc: Global, shown: &mut String, bytes: &[u8]) -> Result<(), Wrong> {

@@ -74,7 +74,7 @@ abbrev pub FitFilter : Metamodel → CheckedFilter → Type 0
 FitFilter mm filter = IsUnitExpression mm filter.hides
 
 abbrev pub FitParts : Metamodel → Parts → Type 0
-FitParts mm parts = OfEach (FitMapping mm) parts.mappings × OfEach (FitFilter mm) parts.filters
+FitParts mm parts = IsClass mm parts.domain × OfEach (FitMapping mm) parts.mappings × OfEach (FitFilter mm) parts.filters
 
 -- ---- classes and expressions
 
@@ -188,17 +188,20 @@ parts_fit : (mm : Metamodel) (content : Content) → Yields (FitParts mm) (check
 unfolding checked
 parts_fit mm content =
     yields_both (yields_both (yields_both (yields_both (yields_both (yields_both
-    (yields_good _ (λ domain _ layers _ top _ mappings fit filters are tools _. (fit, are)))
-    any) any) any)
+    (yields_good _ (λ domain known layers _ top _ mappings fit filters are tools _. (known, fit, are)))
+    (yields_at (diagram ▸ codes "domain") (class_found mm content.domain) (found_class mm content.domain))) any) any)
     (yields_each (λ i mapping. mapping_at mm content i (diagram ▸ codes "mappings" ! i) mapping) 0 content.mappings (λ i mapping. mapping_fits mm content i (diagram ▸ codes "mappings" ! i) mapping)))
     (yields_each (λ i filter. filter_at mm content i (diagram ▸ codes "filters" ! i) filter) 0 content.filters (λ i filter. filter_fits mm content i (diagram ▸ codes "filters" ! i) filter)))
     any
 
+pub domain_fits : (mm : Metamodel) (spec : Specification) → IsCheckedBy mm spec → IsClass mm spec.1.domain
+domain_fits mm spec is = ((parts_fit mm spec.0).value spec.1 is).0
+
 pub mapping_of_fits : (mm : Metamodel) (spec : Specification) (n : ℕ) → IsCheckedBy mm spec → OfSome (FitMapping mm) (mapping_of spec n)
-mapping_of_fits mm spec n is = at_number (FitMapping mm) spec.1.mappings n ((parts_fit mm spec.0).value spec.1 is).0
+mapping_of_fits mm spec n is = at_number (FitMapping mm) spec.1.mappings n ((parts_fit mm spec.0).value spec.1 is).1
 
 pub filter_of_fits : (mm : Metamodel) (spec : Specification) (n : ℕ) → IsCheckedBy mm spec → OfSome (FitFilter mm) (slice_get spec.1.filters n)
-filter_of_fits mm spec n is = at_number (FitFilter mm) spec.1.filters n ((parts_fit mm spec.0).value spec.1 is).1
+filter_of_fits mm spec n is = at_number (FitFilter mm) spec.1.filters n ((parts_fit mm spec.0).value spec.1 is).2
 
 -- ---- the expression of a unit
 

@@ -1,6 +1,7 @@
 //! Diagrams as they are served: the keys of their elements and edges, the units that are evaluated for them, and their JSON text.
 #![tactic(auto)]
 
+mod commands;
 mod diagrams;
 mod edges;
 mod elements;
@@ -13,6 +14,7 @@ mod units;
 mod values;
 mod writing;
 
+pub use commands::{Action, Arguments, Command, End, Given, NamedSlot};
 pub use diagrams::{Diagram, Edge, Element, Look, Problem};
 pub use edges::write_edge;
 pub use elements::write_element;

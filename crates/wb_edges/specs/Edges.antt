@@ -20,7 +20,7 @@ use Rattle.wb_spec_check.specs.declared.checked_mappings.CheckedForm.TheVariants
 use Rattle.wb_spec_check.specs.declared.checked_mappings.CheckedMapping.{CheckedMapping}
 use Rattle.wb_spec_check.specs.declared.checked_mappings.CheckedSource.{CheckedSource}
 use Rattle.wb_answers.specs.Meanings.{is_true, objects_of}
-use Rattle.wb_answers.specs.SameKeys.{same_key}
+use Rattle.wb_answers.specs.SameKeys.{same_edge}
 use Rattle.wb_answers.specs.Seen.{Told}
 
 -- a model under a viewpoint, with the declared elements in order
@@ -68,9 +68,9 @@ elements_of s mappings = filter (is_of mappings) s.nodes
 abbrev pub elements_for : Scene → (mappings : List ℕ) → ℕ → List Key
 elements_for s mappings o = filter (represents o) (elements_of s mappings)
 
--- the objects of declared elements of these mappings, each once, in declared order
-abbrev pub objects_by : Scene → (mappings : List ℕ) → List ℕ
-objects_by s mappings = first_places (map (λ (key : Key). (own_pair key).object) (elements_of s mappings))
+-- the objects of elements, each once
+abbrev pub objects_by : List Key → List ℕ
+objects_by elements = first_places (map (λ (key : Key). (own_pair key).object) elements)
 
 -- ---- the objects that edges stand for
 
@@ -80,7 +80,7 @@ candidates_by s told n source = filter (conforms_to s.model source.objects.domai
 
 -- the semantic objects: the candidates, or the objects of the declared source elements
 unfoldable pub semantic : Scene → Told → ℕ → CheckedEdge → List ℕ
-semantic s told n edge = option_map_or (candidates_by s told n) edge.object_edge (objects_by s edge.sources)
+semantic s told n edge = option_map_or (candidates_by s told n) edge.object_edge (objects_by (elements_of s edge.sources))
 
 abbrev pub pair_of : ℕ → ℕ → Pair
 pair_of n o = record { mapping = n; object = o }
@@ -121,9 +121,6 @@ edges_with s told n edge = flat_map (λ (o : ℕ). edges_at s told edge (pair_of
 -- what the mapping of this number declares
 unfoldable pub edges_by : Scene → Told → ℕ → List EdgeKey
 edges_by s told n = option_map_or (edges_with s told n) (edge_mapping s.spec n) []
-
-abbrev pub same_edge : EdgeKey → EdgeKey → Bool
-same_edge a b = nat_eq a.mapping b.mapping && (nat_eq a.object b.object && (same_key a.source b.source && same_key a.target b.target))
 
 -- each edge at its first place alone
 unfoldable pub each_once : List EdgeKey → List EdgeKey

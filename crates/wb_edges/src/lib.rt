@@ -2,5 +2,11 @@
 #![tactic(auto)]
 
 mod declaring;
+mod drawing;
+mod ends;
+mod found;
+mod grounds;
+mod puts;
+mod semantic;
 
 pub use declaring::declare_edges;

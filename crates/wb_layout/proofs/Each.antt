@@ -1,12 +1,12 @@
 -- Where each key is laid, if each stands once.
-use Rattle.std.proofs.Common.{◌≡◌, ℕ, Bool, true, false, ◌||◌, List, [], ◌∷◌, ◌++◌, length, cond, map, Option, Some, refl, sym, ap, subst, ◌∙◌}
+use Rattle.std.proofs.Common.{◌≡◌, Bool, true, false, ◌||◌, List, [], ◌∷◌, ◌++◌, length, cond, map, Some, refl, sym, ap, ◌∙◌}
 use Rattle.std.specs.List.{list_any, IsDistinct, AllByRecursion}
 use Rattle.std.specs.FinMap.{get, get-insert}
 use Rattle.std.specs.Ordering.{is_eq}
 use Rattle.std.proofs.lemmas.Cmp.{tied_itself}
 use Rattle.std.proofs.lemmas.List.{map-append, map-id, append-nil}
 use Rattle.wb_diagram.specs.declared.keys.Key.{Key}
-use Rattle.wb_layout.specs.Orders.{key_cmp, same_key, is_key}
+use Rattle.wb_layout.specs.Orders.{same_key, is_key}
 use Rattle.wb_layout.specs.Positions.{Position, Positions, placed}
 use Rattle.wb_layout.specs.Grid.{parent_of, children_of, grid, with_earlier, place, placed_all, arranged}
 use Rattle.wb_layout.proofs.KeyOrder.{key_cmp_total}

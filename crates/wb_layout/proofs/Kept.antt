@@ -3,7 +3,7 @@ use Rattle.std.proofs.Common.{◌≡◌, ◌<◌, ◌+◌, ℕ, Bool, true, fals
 use Rattle.std.specs.declared.cmp.Ordering.{Ordering}
 use Rattle.std.specs.declared.cmp.Ordering.TheVariants as c
 use Rattle.std.specs.Ordering.{is_eq}
-use Rattle.std.specs.FinMap.{get, get-insert, get-retain_keys, get_tied, retain_keys, same_map}
+use Rattle.std.specs.FinMap.{get, get-insert, get-retain_keys, get_tied, same_map}
 use Rattle.std.proofs.lemmas.List.{take_more}
 use Rattle.std.proofs.lemmas.List.Folds.{list_any-append}
 use Rattle.wb_diagram.specs.declared.keys.Key.{Key}

@@ -1,12 +1,12 @@
 -- A tree's entries, as a finite map.
-use Rattle.std.proofs.Common.{◌≡◌, ℕ, Bool, true, false, ◌&&◌, T, List, [], ◌∷◌, ◌++◌, length, cond, map, Option, Some, None, refl, sym, ap, subst, ◌∙◌, append_assoc}
-use Rattle.std.specs.Prelude.{slice_get, IfSome}
+use Rattle.std.proofs.Common.{◌≡◌, ◌<◌, ◌+◌, ℕ, Bool, true, false, ◌&&◌, T, List, [], ◌∷◌, ◌++◌, length, take, drop, get_or, cond, Option, Some, refl, sym, ap, subst, ◌∙◌, append_assoc}
+use Rattle.std.proofs.lemmas.List.{take_more, take-append-drop}
+use Rattle.std.specs.Prelude.{IfSome}
 use Rattle.std.specs.declared.cmp.Ordering.{Ordering}
 use Rattle.std.specs.declared.cmp.Ordering.TheVariants as c
 use Rattle.std.specs.Ordering.{ordering_reverse, match_ordering, is_lt, eq_by_cmp}
-use Rattle.std.specs.Map.{lookup}
-use Rattle.std.specs.BTreeMap.{insert_entry, is_at}
-use Rattle.std.specs.FinMap.{FinMap, is_sorted, find, put, entries, keys, get, insert, empty, from_sorted, empty_of_len, len-entries, entries-from_sorted, get-from_sorted, same_entries_map, entries-insert}
+use Rattle.std.specs.BTreeMap.{insert_entry}
+use Rattle.std.specs.FinMap.{is_sorted, find, put, get, insert, empty, from_sorted, empty_of_len, len-entries, entries-from_sorted, get-from_sorted, same_entries_map, entries-insert}
 use Rattle.std.specs.FinMap.Entries.{below_all, by_order, is_sorted-put, find-put}
 use Rattle.wb_diagram.specs.declared.keys.Key.{Key}
 use Rattle.wb_layout.specs.Orders.{key_cmp}
@@ -25,10 +25,6 @@ insert_is_put k v [] = refl
 insert_is_put k v (e ∷ es) =
     same_choice (key_cmp k e.0) ((k, v) ∷ e ∷ es) ((e.0, v) ∷ es) (e ∷ insert_entry key_cmp es k v)
     ∙ ap (λ fs. by_order (key_cmp k e.0) ((k, v) ∷ e ∷ es) ((e.0, v) ∷ es) (e ∷ fs)) (insert_is_put k v es)
-
-pub lookup_is_find : {X : Type 0} (k : Key) (es : List (Key × X)) → lookup (is_at (key_cmp k)) es ≡ find key_cmp k es
-lookup_is_find k [] = refl
-lookup_is_find k (e ∷ es) = ap (λ o. cond (eq_by_cmp key_cmp k e.0) (Some e.1) o) (lookup_is_find k es)
 
 -- ---- no entries
 
@@ -85,22 +81,21 @@ put_last (e ∷ es) k v fs h =
 -- ---- what a layout's entries say of its map
 
 module _ (es : List (Key × Position)) (m : Positions) (is : from_sorted {R = key_cmp} es ≡ m) (s : T (is_sorted key_cmp es)) where
-  pub got_at : (k : Key) → lookup (is_at (key_cmp k)) es ≡ get m k
-  got_at k = lookup_is_find k es ∙ (sym (get-from_sorted key_cmp es k s) ∙ ap (λ n. get n k) is)
-
   pub found_at : (k : Key) → find key_cmp k es ≡ get m k
   found_at k = sym (get-from_sorted key_cmp es k s) ∙ ap (λ n. get n k) is
 
-  pub same_keys : map (λ (e : Key × Position). e.0) es ≡ keys m
-  same_keys = ap (map (λ (e : Key × Position). e.0)) (sym (entries-from_sorted key_cmp es s)) ∙ ap (λ n. keys n) is
+  pub inserted : (fs : List (Key × Position)) (k : Key) (v : Position) → fs ≡ put key_cmp k v es → from_sorted {R = key_cmp} fs ≡ insert m k v
+  inserted fs k v e = put_is_insert es fs k v s e ∙ ap (λ n. insert n k v) is
 
-  pub inserted : (fs : List (Key × Position)) (k : Key) (v : Position) → fs ≡ insert_entry key_cmp es k v → from_sorted {R = key_cmp} fs ≡ insert m k v
-  inserted fs k v e = put_is_insert es fs k v s (e ∙ insert_is_put k v es) ∙ ap (λ n. insert n k v) is
+-- ---- one entry more, in order
 
--- ---- one entry copied
+split_at : {A : Type 0} (xs : List A) (i : ℕ) (x : A) → i < length xs → x ≡ get_or xs i x → xs ≡ take i xs ++ x ∷ drop (i + 1) xs
+split_at xs i x l at = sym (take-append-drop (i + 1) xs) ∙ ap (λ ys. ys ++ drop (i + 1) xs) (take_more xs i x l ∙ ap (λ y. take i xs ++ y ∷ []) (sym at)) ∙ append_assoc (take i xs) (x ∷ []) (drop (i + 1) xs)
 
-pub one_copied : (all done more rest tail : List (Key × Position)) (k l : Key) (v : Position) → T (is_sorted key_cmp all) → done ++ rest ≡ all → rest ≡ (k, v) ∷ tail → l ≡ k → more ≡ insert_entry key_cmp done l v → more ++ tail ≡ all
-one_copied all done more rest tail k l v s before next same put_in =
-    let whole : done ++ (k, v) ∷ tail ≡ all = ap (λ es. done ++ es) (sym next) ∙ before in
-    ap (λ es. es ++ tail) (put_in ∙ insert_is_put l v done ∙ ap (λ key. put key_cmp key v done) same ∙ put_last done k v tail (subst (λ es. T (is_sorted key_cmp es)) (sym whole) s))
-    ∙ append_assoc done ((k, v) ∷ []) tail ∙ whole
+pub one_more : (all done more : List (Key × Position)) (i : ℕ) (e : Key × Position) (k : Key) → T (is_sorted key_cmp all) → i < length all → e ≡ get_or all i e → done ≡ take i all → k ≡ e.0 → more ≡ insert_entry key_cmp done k e.1 → more ≡ take (i + 1) all
+one_more all done more i e k s l at before same put_in =
+    put_in ∙ insert_is_put k e.1 done
+    ∙ ap (λ key. put key_cmp key e.1 done) same
+    ∙ ap (put key_cmp e.0 e.1) before
+    ∙ put_last (take i all) e.0 e.1 (drop (i + 1) all) (subst (λ es. T (is_sorted key_cmp es)) (split_at all i e l at) s)
+    ∙ sym (take_more all i e l ∙ ap (λ y. take i all ++ y ∷ []) (sym at))

@@ -1,5 +1,5 @@
 -- The grid in which the children of each parent are laid.
-use Rattle.std.specs.Prelude.{ℕ, ◌*◌, ◌/◌, ◌%◌, ℤ, pos, Bool, List, [], ◌∷◌, length, map}
+use Rattle.std.specs.Prelude.{ℕ, ◌*◌, ◌/◌, ◌%◌, pos, List, [], ◌∷◌, length, map}
 use Rattle.std.specs.List.{filter}
 use Rattle.wb_diagram.specs.declared.keys.Key.{Key}
 use Rattle.wb_diagram.specs.Keys.{parent_pairs}

@@ -1,5 +1,5 @@
 -- Positions of elements, by their keys.
-use Rattle.std.specs.Prelude.{ℕ, ◌≤◌, ℤ, nat_abs, List}
+use Rattle.std.specs.Prelude.{◌≤◌, ℤ, nat_abs, List}
 use Rattle.std.specs.FinMap as map
 use Rattle.std.specs.FinMap.{FinMap}
 use Rattle.wb_diagram.specs.declared.keys.Key.{Key}

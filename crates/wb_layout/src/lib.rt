@@ -3,11 +3,15 @@
 
 mod arranging;
 mod grid;
+mod growing;
 mod laws;
 mod layout;
+mod layout_log;
 mod restricting;
+mod search;
 mod siblings;
 
 pub use grid::is_in_range;
 pub use laws::{each_is_laid_once, only_the_declared_stay};
 pub use layout::Layout;
+pub use layout_log::LayoutLog;

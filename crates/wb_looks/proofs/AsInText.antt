@@ -1,10 +1,11 @@
--- What is checked of a viewpoint has the conditional styles and the labels that its text declares.
+-- What is checked of a viewpoint has the conditional styles, the labels and the filters that its text declares.
 use Rattle.std.proofs.Common.{◌≡◌, ◌<◌, ℕ, zero, suc, List, [], ◌∷◌, length, Option, Some, None, refl, ap, arith, codes}
 use Rattle.std.specs.Prelude.{⊤, is_some, slice_get}
 use Rattle.wb_json.specs.Place.{Place}
 use Rattle.wb_metamodel.specs.Metamodel.{Metamodel}
 use Rattle.wb_viewpoint.specs.declared.content.Content.{Content}
 use Rattle.wb_viewpoint.specs.declared.edges.EdgeMapping.{EdgeMapping}
+use Rattle.wb_viewpoint.specs.declared.filters.Filter.{Filter}
 use Rattle.wb_viewpoint.specs.declared.mappings.Mapping.{Mapping}
 use Rattle.wb_viewpoint.specs.declared.mappings.MappingForm.{MappingForm}
 use Rattle.wb_viewpoint.specs.declared.mappings.MappingForm.TheVariants.{Node as NodeForm, Edge as EdgeForm}
@@ -12,12 +13,13 @@ use Rattle.wb_viewpoint.specs.declared.nodes.NodeMapping.{NodeMapping}
 use Rattle.wb_viewpoint.specs.declared.styles.ConditionalStyle.{ConditionalStyle}
 use Rattle.wb_viewpoint.specs.declared.styles.Looks.{Looks}
 use Rattle.wb_viewpoint.specs.declared.styles.Style.{Style}
-use Rattle.wb_spec_check.specs.Checked.{checked}
+use Rattle.wb_spec_check.specs.Checked.{checked, filter_at}
 use Rattle.wb_spec_check.specs.Mappings.{edge_at, edge_with, expression_at, form_at, label_at, looks_at, mapping_at, node_at, node_with, style_at as checked_style_at}
 use Rattle.wb_spec_check.specs.Places.{◌▸◌, ◌!◌, diagram}
 use Rattle.wb_spec_check.specs.Scopes.{own_scope}
 use Rattle.wb_spec_check.specs.Units.{Expression}
 use Rattle.wb_spec_check.specs.Validated.{Validated, each_from, optional}
+use Rattle.wb_spec_check.specs.declared.checked_filters.CheckedFilter.{CheckedFilter}
 use Rattle.wb_spec_check.specs.declared.checked_looks.CheckedLooks.{CheckedLooks}
 use Rattle.wb_spec_check.specs.declared.checked_looks.CheckedStyle.{CheckedStyle}
 use Rattle.wb_spec_check.specs.declared.checked_mappings.CheckedMapping.{CheckedMapping}
@@ -120,4 +122,18 @@ parts_agree mm content =
     any) any) any)
     (pairs_each (λ i mapping. mapping_at mm content i (diagram ▸ codes "mappings" ! i) mapping) 0 content.mappings (λ i mapping. mapping_agrees mm content i (diagram ▸ codes "mappings" ! i) mapping)))
     any)
+    any
+
+abbrev pub AgreeFilter : Filter → CheckedFilter → Type 0
+AgreeFilter filter checked_filter = ⊤
+
+-- there are as many filters
+pub filters_agree : (mm : Metamodel) (content : Content) → Yields (λ (parts : Parts). Pairs AgreeFilter content.filters parts.filters) (checked mm content)
+unfolding checked
+filters_agree mm content =
+    yields_both (yields_both (yields_both (yields_both (yields_both (yields_both
+    (yields_good _ (λ domain _ layers _ top _ mappings _ filters are tools _. are))
+    any) any) any)
+    any)
+    (pairs_each (λ i filter. filter_at mm content i (diagram ▸ codes "filters" ! i) filter) 0 content.filters (λ i filter. record { value = λ it is. tt })))
     any

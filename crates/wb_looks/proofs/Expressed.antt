@@ -65,7 +65,7 @@ label_all Q key n style h = by (is_some style.label) h
     by true h = All-cons Q (LabelUnit n key) [] (h refl) (All-nil Q)
     by false h = All-nil Q
 
-units_all : (Q : Unit → Type 0) (looks : Looks) (told : Told) (key : AnyKey) → ((i : ℕ) → i < length looks.styles → Q (StyleUnit (suc i) key)) → ((n : ℕ) → n ≤ length looks.styles → is_some (style_at looks n).label ≡ true → Q (LabelUnit n key)) → All Q (units_by looks told key)
+pub units_all : (Q : Unit → Type 0) (looks : Looks) (told : Told) (key : AnyKey) → ((i : ℕ) → i < length looks.styles → Q (StyleUnit (suc i) key)) → ((n : ℕ) → n ≤ length looks.styles → is_some (style_at looks n).label ≡ true → Q (LabelUnit n key)) → All Q (units_by looks told key)
 unfolding units_by
 units_all Q looks told key of_style of_label =
     All-append Q (style_units told key 1 (length looks.styles)) (label_units key (style_used looks told key) (style_at looks (style_used looks told key)))

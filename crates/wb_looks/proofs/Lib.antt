@@ -1,5 +1,11 @@
 pub mod AsInText
+pub mod BlockLaws
 pub mod Expressed
 pub mod InStyle
+pub mod KeyLaws
+pub mod MapLoops
+pub mod OwnFilters
 pub mod OwnMapping
+pub mod TellLaws
 pub mod Tries
+pub mod UnitLaws

@@ -1,3 +1,4 @@
 pub mod Looks
 pub mod Filters
 pub mod Visible
+pub mod Conditions

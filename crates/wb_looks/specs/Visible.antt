@@ -5,14 +5,13 @@ use Rattle.std.specs.List.{list_any}
 use Rattle.wb_base.specs.Options.{◌>>=◌}
 use Rattle.wb_diagram.specs.declared.keys.AnyKey.{AnyKey}
 use Rattle.wb_diagram.specs.declared.keys.AnyKey.TheVariants.{Node, Edge}
-use Rattle.wb_diagram.specs.declared.keys.EdgeKey.{EdgeKey}
 use Rattle.wb_diagram.specs.declared.keys.Key.{Key}
 use Rattle.wb_diagram.specs.declared.keys.Pair.{Pair}
 use Rattle.wb_spec_check.specs.Checked.{Specification}
 use Rattle.wb_spec_check.specs.Units.{mapping_of, mapping_of_key}
 use Rattle.wb_spec_check.specs.declared.checked_mappings.CheckedMapping.{CheckedMapping}
 use Rattle.wb_answers.specs.Environments.{front}
-use Rattle.wb_answers.specs.SameKeys.{same_key}
+use Rattle.wb_answers.specs.SameKeys.{same_any}
 use Rattle.wb_answers.specs.Seen.{Told}
 use Rattle.wb_looks.specs.Filters.{hides}
 use Rattle.wb_looks.specs.declared.switches.Switches.{Switches as Lent}
@@ -39,15 +38,6 @@ is_on_active_layer spec s key = option_map_or (λ (it : CheckedMapping). is_acti
 -- does an active filter hide the key?
 abbrev pub is_filtered_out : Specification → Told → Switches → AnyKey → Bool
 is_filtered_out spec told s key = list_any (λ (f : ℕ). hides spec told f key) s.filters
-
-abbrev pub same_edge : EdgeKey → EdgeKey → Bool
-same_edge a b = nat_eq a.mapping b.mapping && nat_eq a.object b.object && same_key a.source b.source && same_key a.target b.target
-
-abbrev pub same_any : AnyKey → AnyKey → Bool
-same_any (Node a) (Node b) = same_key a b
-same_any (Node a) (Edge b) = false
-same_any (Edge a) (Node b) = false
-same_any (Edge a) (Edge b) = same_edge a b
 
 -- is the key marked hidden?
 abbrev pub is_hidden : Switches → AnyKey → Bool

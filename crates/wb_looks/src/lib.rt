@@ -1,10 +1,12 @@
 //! How the elements and edges of a diagram look, and which are visible, over the answers of their units.
 #![tactic(auto)]
 
+mod conditions;
 mod expressions;
 mod filters;
 mod labels;
 mod looks;
+mod numbers;
 mod styles;
 mod switches;
 mod visibility;

@@ -9,6 +9,7 @@ pub mod EmptyContents
 pub mod Ends
 pub mod FeatureOwners
 pub mod FewerRoots
+pub mod GivenEdits
 pub mod KeptCreated
 pub mod KeptLinks
 pub mod KeptMoved

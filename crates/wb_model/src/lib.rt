@@ -10,10 +10,11 @@ mod refusals;
 pub use building::{BuildRefusal, build};
 pub use change_list::ChangeList;
 pub use edits::{
-    created_objects_have_their_place, edits_change_their_slot, edits_give_new_numbers,
+    Edit, created_objects_have_their_place, edits_change_their_slot, edits_give_new_numbers,
     edits_keep_models_valid, edits_keep_opposites, edits_keep_the_order,
     edits_leave_other_features, edits_may_change_nothing, edits_of_objects_leave_plain_features,
-    moved_objects_have_their_container, removed_objects_are_nowhere, trees_are_what_is_within,
+    given_edits_are_edits, moved_objects_have_their_container, removed_objects_are_nowhere,
+    trees_are_what_is_within,
 };
 pub use model::{Model, empty};
 pub use refusals::ModelRefusal;

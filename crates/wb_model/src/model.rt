@@ -1,6 +1,6 @@
-ghost use Rattle.std.specs.Prelude.{◌≡◌, ◌==◌, ◌<◌, length, IfOk, IfSome};
+ghost use Rattle.std.specs.Prelude.{◌≡◌, ◌==◌, ◌<◌, ◌≤◌, length, IfOk, IfSome};
 ghost use Rattle.std.specs.FinMap.{keys, len};
-ghost use Rattle.wb_store.specs.Contents.{kind, slot, empty_contents};
+ghost use Rattle.wb_store.specs.Contents.{kind, slot, empty_contents, with_next};
 ghost use Rattle.wb_store.specs.Cells.{extent, holder, inverse, tree};
 ghost use Rattle.wb_validity.specs.Valid.{IsValid, conforms_to};
 
@@ -143,6 +143,14 @@ impl Model {
         ensures { IfOk result (λ os. os ≡ keys self.now.kinds) }
     {
         self.store.objects(alloc)
+    }
+
+    /// The next object gets a number that is not less than the one it would get: those between are left out.
+    pub fn raise_next(&mut self, next: u32)
+        requires { self.old.next ≤ next }
+        ensures { self.new ≡ with_next next self.old }
+    {
+        self.store.set_next(next);
     }
 
     /// The live objects that conform to a class, ascending.

@@ -1,3 +1,4 @@
 pub mod Picture
 pub mod Opening
 pub mod Views
+pub mod invariants

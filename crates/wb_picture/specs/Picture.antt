@@ -67,6 +67,10 @@ is_on numbers n = list_any (nat_eq n) numbers
 abbrev pub is_additional : ℕ → Bool
 is_additional n = not (nat_eq n 0)
 
+-- is this an active layer beside the first?
+abbrev pub is_active_layer : List ℕ → ℕ → Bool
+is_active_layer on n = is_additional n && is_on on n
+
 -- the names of those of the items whose numbers pass, in the items' order
 abbrev pub names_where : {A : Type 0} → (A → List ℕ) → (ℕ → Bool) → List A → List (List ℕ)
 names_where {A} name passes items = map (λ (item : ℕ × A). name item.1) (filter (λ (item : ℕ × A). passes item.0) (enumerate_from 0 items))
@@ -77,7 +81,7 @@ active_filters on content = names_where (λ (it : Filter). it.name) (is_on on) c
 
 -- the names of the active layers but the first, in the viewpoint's order
 unfoldable pub active_layers : List ℕ → Content → List (List ℕ)
-active_layers on content = names_where (λ (it : Layer). it.name) (λ n. is_additional n && is_on on n) content.layers
+active_layers on content = names_where (λ (it : Layer). it.name) (is_active_layer on) content.layers
 
 -- ---- the picture
 

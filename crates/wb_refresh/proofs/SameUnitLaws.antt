@@ -14,48 +14,11 @@ use Rattle.wb_diagram.specs.declared.keys.Pair.{Pair}
 use Rattle.wb_diagram.specs.declared.units.Unit.{Unit as Place}
 use Rattle.wb_diagram.specs.declared.units.Unit.TheVariants.{Candidates, Precondition, EdgeCandidates, EdgePrecondition, Source, Target, Style, Label, Filter}
 use Rattle.wb_aql_eval.specs.declared.env.Outcome.{Outcome}
-use Rattle.wb_answers.specs.SameKeys.{same_pair, same_key}
-use Rattle.wb_looks.specs.Visible.{same_any, same_edge}
+use Rattle.wb_answers.specs.SameKeys.{same_pair, same_key, same_any}
+use Rattle.wb_answers.proofs.SameKeyLaws.{any_is, key_is, pair_is}
 use Rattle.wb_refresh.specs.SameUnits.{same_parent, same_unit}
 
 -- ---- the same, and so equal
-
-pair_is : (a b : Pair) → same_pair a b ≡ true → a ≡ b
-pair_is a b h =
-    let both = and_parts (nat_eq a.mapping b.mapping) (nat_eq a.object b.object) h in
-    let mapping = eqb-true a.mapping b.mapping both.0 in
-    let object = eqb-true a.object b.object both.1 in
-    λ i. record { mapping = mapping i; object = object i }
-
-path_is : (a b : List Pair) → pointwise same_pair a b ≡ true → a ≡ b
-path_is [] [] h = refl
-path_is [] (y ∷ ys) h = absurd (false≢true h)
-path_is (x ∷ xs) [] h = absurd (false≢true h)
-path_is (x ∷ xs) (y ∷ ys) h =
-    let both = and_parts (same_pair x y) (pointwise same_pair xs ys) h in
-    λ i. pair_is x y both.0 i ∷ path_is xs ys both.1 i
-
-pub key_is : (a b : Key) → same_key a b ≡ true → a ≡ b
-key_is a b h =
-    let pairs = path_is a.pairs b.pairs h in
-    λ i. record { pairs = pairs i }
-
-pub edge_is : (a b : EdgeKey) → same_edge a b ≡ true → a ≡ b
-edge_is a b h =
-    let all = and_parts (nat_eq a.mapping b.mapping && nat_eq a.object b.object && same_key a.source b.source) (same_key a.target b.target) h in
-    let three = and_parts (nat_eq a.mapping b.mapping && nat_eq a.object b.object) (same_key a.source b.source) all.0 in
-    let two = and_parts (nat_eq a.mapping b.mapping) (nat_eq a.object b.object) three.0 in
-    let mapping = eqb-true a.mapping b.mapping two.0 in
-    let object = eqb-true a.object b.object two.1 in
-    let source = key_is a.source b.source three.1 in
-    let target = key_is a.target b.target all.1 in
-    λ i. record { mapping = mapping i; object = object i; source = source i; target = target i }
-
-any_is : (a b : AnyKey) → same_any a b ≡ true → a ≡ b
-any_is (Node a) (Node b) h = ap Node (key_is a b h)
-any_is (Node a) (Edge b) h = absurd (false≢true h)
-any_is (Edge a) (Node b) h = absurd (false≢true h)
-any_is (Edge a) (Edge b) h = ap Edge (edge_is a b h)
 
 parent_is : (a b : Option Key) → same_parent a b ≡ true → a ≡ b
 parent_is None None h = refl

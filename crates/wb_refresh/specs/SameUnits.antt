@@ -4,7 +4,7 @@ use Rattle.wb_diagram.specs.declared.keys.Key.{Key}
 use Rattle.wb_diagram.specs.declared.units.Unit.{Unit}
 use Rattle.wb_diagram.specs.declared.units.Unit.TheVariants.{Candidates, Precondition, EdgeCandidates, EdgePrecondition, Source, Target, Style, Label, Filter}
 use Rattle.wb_answers.specs.SameKeys.{same_pair, same_key}
-use Rattle.wb_looks.specs.Visible.{same_any}
+use Rattle.wb_answers.specs.SameKeys.{same_any}
 
 -- the same element, or both the diagram
 abbrev pub same_parent : Option Key → Option Key → Bool

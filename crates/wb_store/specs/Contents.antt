@@ -56,3 +56,7 @@ contains m p f o = is_containment m.metamodel f && has_object (slot m p f) o
 -- no objects, and the numbers from 1 on
 abbrev pub empty_contents : Metamodel → Contents
 empty_contents metamodel = record { metamodel = metamodel; next = 1; kinds = map.empty; slots = map.empty; roots = [] }
+
+-- the same, and the next object gets another number
+abbrev pub with_next : ℕ → Contents → Contents
+with_next next m = record m { next = next }

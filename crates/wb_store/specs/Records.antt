@@ -1,5 +1,5 @@
 -- Objects with their slots as a list, and the contents that such a list shows.
-use Rattle.std.specs.Prelude.{◌≡◌, ℕ, List, [], ◌∷◌, map, length, Bool, true, ◌&&◌, nat_lt}
+use Rattle.std.specs.Prelude.{ℕ, List, [], ◌∷◌, map, length, Bool, ◌&&◌, nat_lt}
 use Rattle.std.specs.Option.{option_map_or}
 use Rattle.std.specs.List.{list_all, flat_map}
 use Rattle.std.specs.FinMap.{from_entries}
@@ -7,7 +7,7 @@ use Rattle.wb_metamodel.specs.Metamodel.{Metamodel}
 use Rattle.wb_store.specs.declared.scalars.Scalar.{Scalar}
 use Rattle.wb_store.specs.declared.records.Record.{Record}
 use Rattle.wb_store.specs.declared.records.Slot.{Slot}
-use Rattle.wb_store.specs.Places.{rises, numbered}
+use Rattle.wb_store.specs.Places.{numbered}
 use Rattle.wb_store.specs.Contents.{Contents, Filled}
 
 -- an object with its class

@@ -1,6 +1,6 @@
 ghost use Rattle.std.specs.Prelude.{◌≡◌, ◌<◌, ◌^◌, ℕ, suc, true, [], length, IsSome, IfSome, IfOk, OnOk, OnErr};
 ghost use Rattle.std.specs.FinMap.{len};
-ghost use Rattle.wb_store.specs.Contents.{kind, slot, empty_contents};
+ghost use Rattle.wb_store.specs.Contents.{kind, slot, empty_contents, with_next};
 ghost use Rattle.wb_store.specs.Cells.{holder};
 ghost use Rattle.wb_store.specs.Relinking.{link, without_root, without};
 ghost use Rattle.wb_store.specs.LinkSteps.{with_link, with_only, without_link, without_slot, with_root, Grows};
@@ -234,6 +234,13 @@ impl Store {
         let mut kept = mem::replace(&mut self.roots, List::new(alloc)).into_vec();
         kept.retain(|root| *root != o);
         self.roots = List::from_vec(kept);
+    }
+
+    /// The next object gets another number.
+    pub fn set_next(&mut self, next: u32)
+        ensures { self.new ≡ with_next next self.old }
+    {
+        self.next = next;
     }
 
     /// Deletes objects, with every occurrence of them.

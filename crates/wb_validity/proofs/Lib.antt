@@ -2,6 +2,7 @@ pub mod Breaches
 pub mod Climbing
 pub mod Differing
 pub mod Findings
+pub mod LaterNext
 pub mod LinkLemmas
 pub mod Marked
 pub mod Opposed

@@ -1,6 +1,6 @@
 //! What is true of every edit that is accepted. These functions do nothing when they run.
 
-ghost use Rattle.std.specs.Prelude.{◌≡◌, ◌≢◌, ◌<◌, ◌↔◌, ℕ, true, false, not, [], ◌∷◌, ◌++◌, if◌then◌else◌, Some, None, Ok, filter};
+ghost use Rattle.std.specs.Prelude.{◌≡◌, ◌≢◌, ◌<◌, ◌≤◌, ◌↔◌, ℕ, true, false, not, [], ◌∷◌, ◌++◌, if◌then◌else◌, Some, None, Ok, filter};
 ghost use Rattle.wb_metamodel.specs.WellFormed.{WellFormed};
 ghost use Rattle.wb_store.specs.declared.scalars.Scalar.{Scalar};
 ghost use Rattle.wb_store.specs.declared.scalars.Scalar.TheVariants.{Object};
@@ -13,6 +13,8 @@ ghost use Rattle.wb_store.specs.Features.{opposite};
 ghost use Rattle.wb_validity.specs.Valid.{Within, IsValid};
 ghost use Rattle.wb_store.specs.Relinking.{link, is_among, stands};
 ghost use Rattle.wb_model.specs.Edits.{set, add, take_out, unset, move_to, remove, create};
+ghost use Rattle.wb_model.specs.declared.edits.edit.Edit.{Edit};
+ghost use Rattle.wb_model.specs.GivenEdits.{edit_of};
 ghost use Rattle.wb_model.specs.EditLaws.{IsEdited, AreEdited, KeepsOrder, ChangesOnly, NumbersAreFresh, GoesWith, IsNowhere};
 
 /// An edit leaves a valid model, of the same metamodel.
@@ -94,4 +96,12 @@ pub fn created_objects_have_their_place()
     ensures root { (m n : Contents) (class : ℕ) → create m class Root ≡ Ok n → n.roots ≡ m.roots ++ m.next ∷ [] }
     ensures holder { (m n : Contents) → WellFormed m.metamodel → IsValid m → (class p f : ℕ) → create m class (In p f) ≡ Ok n → holder n m.next ≡ Some (p, f) }
     ensures slot { (m n : Contents) → WellFormed m.metamodel → IsValid m → (class p f : ℕ) → create m class (In p f) ≡ Ok n → slot n p f ≡ slot m p f ++ Object m.next ∷ [] }
+{}
+
+/// An edit that is given is one of the seven: it leaves a valid model of the same metamodel, and `next` does not fall.
+pub fn given_edits_are_edits()
+    ensures edited { (edit : Edit) (m n : Contents) → edit_of edit m ≡ Ok n → IsEdited m n }
+    ensures valid { (edit : Edit) (m n : Contents) → WellFormed m.metamodel → IsValid m → edit_of edit m ≡ Ok n → IsValid n }
+    ensures metamodel { (edit : Edit) (m n : Contents) → edit_of edit m ≡ Ok n → n.metamodel ≡ m.metamodel }
+    ensures next { (edit : Edit) (m n : Contents) → edit_of edit m ≡ Ok n → m.next ≤ n.next }
 {}

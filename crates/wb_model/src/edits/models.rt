@@ -1,9 +1,11 @@
 ghost use Rattle.std.specs.Prelude.{◌≡◌, ◌<◌, length, IfOk};
 ghost use Rattle.wb_model.specs.EditChecks.{PlaceIsKnown};
 ghost use Rattle.wb_model.specs.Edits.{set, add, take_out, unset, move_to, create, remove, Edited};
+ghost use Rattle.wb_model.specs.GivenEdits.{edit_of, EditIsKnown, none_made, number_made};
 
 use crate::change_list::ChangeList;
 use crate::edits::creations::create;
+use crate::edits::edit::Edit;
 use crate::edits::features::{add, set, take, unset};
 use crate::edits::moves::move_to;
 use crate::edits::removals::remove;
@@ -125,5 +127,55 @@ impl Model {
     {
         self.store.metamodel().well_formed();
         remove(&mut self.store, alloc, o)
+    }
+
+    /// The edit that is given. Answered is the number of the object that it makes, if it makes one.
+    pub fn edit(
+        &mut self,
+        alloc: Global,
+        edit: Edit,
+        log: &mut ChangeList,
+    ) -> Result<Option<ObjectId>, ModelRefusal>
+        requires { EditIsKnown self.old.metamodel edit }
+        ensures edited { Edited result (edit_of edit self.old) self.old self.new }
+        ensures number { IfOk result (λ made. made ≡ number_made edit self.old) }
+    {
+        match edit {
+            Edit::Create { class, place } => Ok(Some(self.create(alloc, class, place, log)?)),
+            Edit::Set {
+                object,
+                feature,
+                value,
+            } => none_made(self.set(alloc, object, feature, value, log)),
+            Edit::Add {
+                object,
+                feature,
+                value,
+            } => none_made(self.add(alloc, object, feature, value, log)),
+            Edit::Take {
+                object,
+                feature,
+                value,
+            } => none_made(self.take(alloc, object, feature, &value, log)),
+            Edit::Unset { object, feature } => {
+                none_made(self.unset(alloc, object, feature, log))
+            }
+            Edit::MoveTo {
+                object,
+                container,
+                feature,
+            } => none_made(self.move_to(alloc, object, container, feature, log)),
+            Edit::Remove { object } => none_made(self.remove(alloc, object, log)),
+        }
+    }
+}
+
+// The answer of an edit that makes no object.
+fn none_made(answer: Result<(), ModelRefusal>) -> Result<Option<ObjectId>, ModelRefusal>
+    ensures { result ≡ none_made answer }
+{
+    match answer {
+        Ok(()) => Ok(None),
+        Err(refusal) => Err(refusal),
     }
 }

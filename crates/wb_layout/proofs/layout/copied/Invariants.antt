@@ -1,6 +1,6 @@
-use Rattle.std.proofs.Common.{◌≡◌, ◌++◌}
+use Rattle.std.proofs.Common.{◌≡◌, take}
 use Rattle.wb_layout.proofs.layout.copied.Given as goal
 
--- the entries copied, with those to come
-abbrev pub invariant-loop-key : goal.invariant-loop-key
-invariant-loop-key l = l.copy.entries ++ l.key-iterator ≡ l.positions.entries
+-- the entries so far are copied
+abbrev pub invariant-loop-entry : goal.invariant-loop-entry
+invariant-loop-entry l = l.copies.items ≡ take l.entry-index l.entries

@@ -1,4 +1,4 @@
-use Rattle.std.proofs.Common.{◌≡◌, ◌∙◌, ap, List, length, take, ◌-◌}
+use Rattle.std.proofs.Common.{◌∙◌, ap, List, length, take, ◌-◌}
 use Rattle.wb_diagram.specs.Keys.{parent_pairs}
 use Rattle.wb_diagram.specs.declared.keys.Pair.{Pair}
 use Rattle.wb_diagram.specs.declared.keys.Key.{Key}

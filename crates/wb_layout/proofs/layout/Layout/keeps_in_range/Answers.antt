@@ -6,4 +6,4 @@ use Rattle.wb_layout.proofs.layout.Layout.keeps_in_range.Goals as goal
 
 pub returns : goal.returns
 returns c = λ key. subst (λ (found : Option Position). IfSome found IsInRange)
-    (found_at c.self.inside.positions.entries c.args.self.now c.self.view_is c.self.invariant.0 key) (c.self.invariant.1 key)
+    (found_at c.self.inside.positions.items c.args.self.now c.self.view_is c.self.invariant.0 key) (c.self.invariant.1 key)

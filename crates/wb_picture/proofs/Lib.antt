@@ -1,0 +1,5 @@
+pub mod Rows
+pub mod Numbering
+pub mod FewLayers
+pub mod Shown
+pub mod Writable
