@@ -1,1 +1,10 @@
+pub mod Lists
 pub mod SameUnitLaws
+pub mod RowLaws
+pub mod Asking
+pub mod Counting
+pub mod DiagramLaws
+pub mod Ended
+pub mod Opened
+pub mod GoingOn
+pub mod Showing

@@ -19,8 +19,11 @@ pub record Subject : Type 0 where
 abbrev pub setting : Specification → Contents → (root : ℕ) → Setting
 setting spec m root = record { spec = spec; model = m; root = root }
 
+abbrev pub subject_in : Setting → (shown : List Key) → Subject
+subject_in s shown = record { setting = s; shown = shown }
+
 abbrev pub subject : Specification → Contents → (root : ℕ) → (shown : List Key) → Subject
-subject spec m root shown = record { setting = setting spec m root; shown = shown }
+subject spec m root shown = subject_in (setting spec m root) shown
 
 -- what elements are declared over
 abbrev pub scene : Subject → Scene

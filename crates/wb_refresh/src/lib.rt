@@ -2,8 +2,13 @@
 #![tactic(auto)]
 
 mod declared;
+mod declaring;
+mod evaluating;
+mod faults;
+mod index;
 mod opening;
 mod refresh;
+mod table;
 
 pub use opening::open;
 pub use refresh::Refresh;

@@ -1,9 +1,12 @@
-ghost use Rattle.std.specs.Prelude.{◌≡◌};
+ghost use Rattle.std.specs.Prelude.{◌≡◌, IfOk};
 ghost use Rattle.std.specs.Option.{option_copied};
+ghost use Rattle.wb_refresh.specs.Endings.{Holds};
 ghost use Rattle.wb_refresh.specs.Openings.{answer_in};
 
 use crate::declared::Declared;
+use crate::table::Table;
 use indexmap::IndexMap;
+use std::alloc::{AllocError, Global};
 use std::marker::PhantomData;
 use wb_aql_eval::Outcome;
 use wb_aql_values::Answer;
@@ -37,17 +40,37 @@ impl<E> std::marker::Model for Refresh<E> {
     ghost Value = { Kept };
 
     ghost view = { λ r. record {
-      nodes = r.declared.nodes;
-      edges = r.declared.edges;
-      looks = r.declared.shown.looks;
-      filtered = r.declared.shown.filtered;
-      problems = r.problems;
-      units = r.units;
-      outcomes = r.outcomes.entries;
+        nodes = r.declared.nodes;
+        edges = r.declared.edges;
+        looks = r.declared.shown.looks;
+        filtered = r.declared.shown.filtered;
+        problems = r.problems;
+        units = r.units;
+        outcomes = r.outcomes.entries;
     } };
 }
 
 impl<E> Refresh<E> {
+    /// What was declared, with the outcomes that it was declared by.
+    pub(crate) fn new(
+        alloc: Global,
+        declared: Declared,
+        table: Table<'_>,
+    ) -> Result<Refresh<E>, AllocError>
+        ensures { IfOk result (Holds declared table.entry) }
+    {
+        let problems = table.problems(alloc)?;
+        let units = table.len();
+        let outcomes = table.into_index(alloc)?;
+        Ok(Refresh {
+            declared,
+            problems,
+            units,
+            outcomes,
+            evaluator: PhantomData,
+        })
+    }
+
     /// The keys of the declared elements, parents before their children.
     pub fn nodes(&self) -> &[Key]
         ensures { result.now ≡ self.now.nodes }
