@@ -18,7 +18,7 @@ use wb_answers::Stop;
 use wb_metamodel::ObjectId;
 use wb_model::Model;
 use wb_outer::{Shelf, Steps};
-use wb_refresh::open;
+use wb_refresh::Refresh;
 use wb_spec_check::CheckedViewpoint;
 
 /// Takes the three files in turn, and draws the model under the viewpoint.
@@ -65,7 +65,7 @@ fn drawn<L>(
     requires { IsCheckedBy model.now.metamodel spec.now }
     ensures { Reaches result (Some (drawn spec.now model.now root)) }
 {
-    match open(alloc, spec, model, root, &[], steps) {
+    match Refresh::open(alloc, spec, model, root, &[], steps) {
         Ok(diagram) => Ok(picture_answer(alloc, spec, &diagram)?),
         Err(Stop::TooLarge) => Err(ended_by(diagram_too_large(alloc))),
         Err(Stop::NoMemory) => Err(Ending::NoMemory),

@@ -110,13 +110,11 @@ ends {A} gives s count risen names names_now t now r fresh each asks =
             large = tt;
             counted = spent ∙ ap (λ n. count + n) each;
             most = omega (arith, spent, each);
-            least = omega (arith, spent);
           },
           lenders_all gives s count names end refl asks.asked,
         )
     by (Err stop) asks =
-        let most = asks.stopped.spent in
-        let least : count ≤ risen = ? in (
+        let most = asks.stopped.spent in (
           record {
             rows = tt;
             metamodel = asks.stopped.metamodel;
@@ -124,7 +122,6 @@ ends {A} gives s count risen names names_now t now r fresh each asks =
             large = λ same. too_large gives s count names end refl asks.stopped (asks.large same);
             counted = tt;
             most = omega (arith, most, each);
-            least = least;
           },
           asks.stopped.lenders,
         )

@@ -17,7 +17,6 @@ pub record Ends {A : Type 0} (gives : Gives) (s : Subject) (count : ℕ) (result
   pub large : IfErr result (λ stop. stop ≡ TooLarge → is_too_large gives s ≡ true)
   pub counted : OnOk result (risen ≡ count + length (all_units gives s))
   pub most : risen ≤ count + length (all_units gives s)
-  pub least : count ≤ risen
 
 -- what was declared is kept, with the outcomes that were evaluated
 pub record Holds (declared : Declared) (t : Evaluated) (kept : Kept) : Type 0 where

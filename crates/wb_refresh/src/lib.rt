@@ -10,5 +10,4 @@ mod opening;
 mod refresh;
 mod table;
 
-pub use opening::open;
 pub use refresh::Refresh;

@@ -21,29 +21,30 @@ use wb_metamodel::ObjectId;
 use wb_model::Model;
 use wb_spec_check::CheckedViewpoint;
 
-/// The diagram of a model, declared from scratch: every unit is evaluated once, and its outcome kept.
-///
-/// `TooLarge` comes where there are more than 100,000 units, or elements and edges together, or where all outcomes
-/// together weigh more than 2,000,000.
-pub fn open<'x, E: Evaluator>(
-    alloc: Global,
-    spec: &'x CheckedViewpoint,
-    model: &'x Model,
-    root: ObjectId,
-    shown: &[Key],
-    steps: &mut E,
-) -> Result<Refresh<E>, Stop>
-    requires checked { IsCheckedBy model.now.metamodel spec.now }
-    ensures opened { IfOk result (IsOpened E.outcome_by (subject spec.now model.now root shown.now)) }
-    ensures few { OnOk result (is_too_large E.outcome_by (subject spec.now model.now root shown.now) ≡ false) }
-    ensures large { IfErr result (λ stop. stop ≡ TooLarge → is_too_large E.outcome_by (subject spec.now model.now root shown.now) ≡ true) }
-    ensures counted { OnOk result (E.count steps.new ≡ E.count steps.old + length (all_units E.outcome_by (subject spec.now model.now root shown.now))) }
-    ensures most { E.count steps.new ≤ E.count steps.old + length (all_units E.outcome_by (subject spec.now model.now root shown.now)) }
-    ensures least { E.count steps.old ≤ E.count steps.new }
-{
-    let mut table = Table::new(alloc, spec, model, root);
-    let declared = evaluate_all(alloc, shown, &mut table, steps)?;
-    Ok(Refresh::new(alloc, declared, table)?)
+impl<E: Evaluator> Refresh<E> {
+    /// The diagram of a model, declared from scratch: every unit is evaluated once, and its outcome kept.
+    ///
+    /// `TooLarge` comes where there are more than 100,000 units, or elements and edges together, or where all outcomes
+    /// together weigh more than 2,000,000.
+    pub fn open<'x>(
+        alloc: Global,
+        spec: &'x CheckedViewpoint,
+        model: &'x Model,
+        root: ObjectId,
+        shown: &[Key],
+        steps: &mut E,
+    ) -> Result<Refresh<E>, Stop>
+        requires checked { IsCheckedBy model.now.metamodel spec.now }
+        ensures opened { IfOk result (IsOpened E.outcome_by (subject spec.now model.now root shown.now)) }
+        ensures few { OnOk result (is_too_large E.outcome_by (subject spec.now model.now root shown.now) ≡ false) }
+        ensures large { IfErr result (λ stop. stop ≡ TooLarge → is_too_large E.outcome_by (subject spec.now model.now root shown.now) ≡ true) }
+        ensures counted { OnOk result (E.count steps.new ≡ E.count steps.old + length (all_units E.outcome_by (subject spec.now model.now root shown.now))) }
+        ensures most { E.count steps.new ≤ E.count steps.old + length (all_units E.outcome_by (subject spec.now model.now root shown.now)) }
+    {
+        let mut table = Table::new(alloc, spec, model, root);
+        let declared = evaluate_all(alloc, shown, &mut table, steps)?;
+        Ok(Refresh::new(alloc, declared, table)?)
+    }
 }
 
 // What is declared; all units are evaluated, and their outcomes kept.

@@ -7,7 +7,7 @@ use Rattle.wb_looks.specs.Looks.{HasMapping}
 use Rattle.wb_refresh.specs.Declarations.{AreShown}
 use Rattle.wb_refresh.specs.Diagrams.{keys_of}
 use Rattle.wb_refresh.proofs.DiagramLaws.{keys_have_mappings}
-use Rattle.wb_refresh.proofs.GoingOn.{all_asked, edges_declared, edges_refused, keys_declared, nodes_refused, shown_are, shown_refused}
+use Rattle.wb_refresh.proofs.GoingOn.{all_asked, edges_declared, edges_refused, keys_declared, shown_are, shown_refused}
 use Rattle.wb_refresh.proofs.declaring.declare.Goals as goal
 
 pub declare_edges-requires-clause-fine : goal.declare_edges-requires-clause-fine

@@ -1,4 +1,4 @@
-use Rattle.std.proofs.Common.{◌≡◌, List, [], ◌∷◌, ap, get_or, subst}
+use Rattle.std.proofs.Common.{List, [], ◌∷◌, ap, get_or, subst}
 use Rattle.std.specs.Borrow.{GName}
 use Rattle.wb_store.specs.Contents.{Contents}
 use Rattle.wb_spec_check.specs.Checked.{Specification}

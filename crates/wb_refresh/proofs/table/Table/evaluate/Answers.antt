@@ -1,4 +1,4 @@
-use Rattle.std.proofs.Common.{◌≡◌, ◌∙◌, ℕ, List, Option, sym, subst}
+use Rattle.std.proofs.Common.{ℕ, List, Option, sym, subst}
 use Rattle.std.specs.Prelude.{IfSome}
 use Rattle.wb_metamodel.specs.Metamodel.{Metamodel}
 use Rattle.wb_spec_check.specs.Units.{Expression, expression_of}

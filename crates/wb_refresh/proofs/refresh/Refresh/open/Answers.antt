@@ -2,7 +2,7 @@ use Rattle.std.proofs.Common.{ap, refl}
 use Rattle.wb_refresh.specs.Subjects.{setting, subject}
 use Rattle.wb_refresh.specs.Tables.{Evaluated}
 use Rattle.wb_refresh.proofs.Opened.{opened}
-use Rattle.wb_refresh.proofs.opening.open.Goals as goal
+use Rattle.wb_refresh.proofs.refresh.Refresh.open.Goals as goal
 
 pub returns-clause-opened : goal.returns-clause-opened
 returns-clause-opened g c =
