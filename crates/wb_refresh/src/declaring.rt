@@ -36,7 +36,14 @@ pub fn declare<A: Answers>(
 {
     let nodes = declare_nodes(alloc, spec, model, shown, answers)?;
     let edges = declare_edges(alloc, spec, model, nodes.as_slice(), answers)?;
-    let shown = show(alloc, spec, model.metamodel(), nodes.as_slice(), edges.as_slice(), answers)?;
+    let shown = show(
+        alloc,
+        spec,
+        model.metamodel(),
+        nodes.as_slice(),
+        edges.as_slice(),
+        answers,
+    )?;
     Ok(Declared {
         nodes,
         edges,

@@ -31,12 +31,7 @@ impl<E: Evaluator> Answers for Evaluating<'_, '_, E> {
 }
 
 // Keeps the outcome of a unit, and answers it.
-fn keep(
-    alloc: Global,
-    table: &mut Table<'_>,
-    unit: &Unit,
-    outcome: Outcome,
-) -> Result<Answer, Stop>
+fn keep(alloc: Global, table: &mut Table<'_>, unit: &Unit, outcome: Outcome) -> Result<Answer, Stop>
     requires { IfOk (answered outcome.answer) (IsBounded table.old.setting.model.metamodel) }
     ensures value { IfOk result (λ a. a ≡ outcome.answer) }
     ensures keeps { Keeps table.old (row_with (unit.now, outcome)) result table.new }

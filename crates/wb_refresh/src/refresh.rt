@@ -40,13 +40,13 @@ impl<E> std::marker::Model for Refresh<E> {
     ghost Value = { Kept };
 
     ghost view = { λ r. record {
-        nodes = r.declared.nodes;
-        edges = r.declared.edges;
-        looks = r.declared.shown.looks;
-        filtered = r.declared.shown.filtered;
-        problems = r.problems;
-        units = r.units;
-        outcomes = r.outcomes.entries;
+      nodes = r.declared.nodes;
+      edges = r.declared.edges;
+      looks = r.declared.shown.looks;
+      filtered = r.declared.shown.filtered;
+      problems = r.problems;
+      units = r.units;
+      outcomes = r.outcomes.entries;
     } };
 }
 
