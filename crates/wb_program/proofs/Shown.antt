@@ -40,7 +40,7 @@ use Rattle.wb_program.specs.Written.{CanBeShown}
 -- what a list contains, by a function
 contains_mapped : {X Y : Type 0} (f : X → Y) (xs : List X) (x : X) → Contains xs x → Contains (map f xs) (f x)
 contains_mapped f xs x (k, within, at) =
-    (k, subst (λ (n : ℕ). k < n) (sym (length-map f xs)) within, get_or-map f xs k x (f x) within ∙ ap f at)
+    (k, subst (λ (n : ℕ). k < n) (sym (length-map xs f)) within, get_or-map f xs k x (f x) within ∙ ap f at)
 
 -- an element is among all keys
 element_among : (ns : List Key) (es : List EdgeKey) (k : Key) → Contains ns k → Contains (all_keys ns es) (Node k)
@@ -97,30 +97,35 @@ module _ (s : Scene) (answers : Told) where
       (All-append NamesPaths (flat_map (look_units s.spec answers) all) (filter_units s.spec all) (looks_name_paths all keys_are_writable) (filter_units_name_paths s.spec all keys_are_writable)))
 
 -- the problems of units that name paths name paths
-problems_name_paths : (mm : Metamodel) (gives : Gives) (setting : Setting) (units : List Place) → All NamesPaths units → All (λ (problem : Problem). NamesPaths problem.at) (problems_of mm (map (row gives setting) units))
-problems_name_paths mm gives setting [] paths = All-nil _
-problems_name_paths mm gives setting (unit ∷ units) paths = by (fault_in mm unit (told gives setting unit))
-  where
-    later : All (λ (problem : Problem). NamesPaths problem.at) (problems_of mm (map (row gives setting) units))
-    later = problems_name_paths mm gives setting units (All-tail NamesPaths unit units paths)
+module _ (mm : Metamodel) (gives : Gives) (setting : Setting) where
+  -- a problem names paths
+  abbrev AtPaths : Problem → Type 0
+  AtPaths problem = NamesPaths problem.at
 
-    by : (fault : Option Fault) → All (λ (problem : Problem). NamesPaths problem.at) (cons_option (option_map (λ (it : Fault). record { at = unit; fault = fault_name it }) fault) (problems_of mm (map (row gives setting) units)))
-    by None = later
-    by (Some it) = All-cons (λ (problem : Problem). NamesPaths problem.at) _ _ (All-head NamesPaths unit units paths) later
+  one_more : (unit : Place) (fault : Option Fault) (more : List Problem) → NamesPaths unit → All AtPaths more
+      → All AtPaths (cons_option (option_map (λ (it : Fault). record { at = unit; fault = fault_name it }) fault) more)
+  one_more unit None more named later = later
+  one_more unit (Some it) more named later = All-cons AtPaths (record { at = unit; fault = fault_name it }) more named later
+
+  problems_name_paths : (units : List Place) → All NamesPaths units → All AtPaths (problems_of mm (map (row gives setting) units))
+  problems_name_paths [] paths = All-nil AtPaths
+  problems_name_paths (unit ∷ units) paths =
+      one_more unit (fault_in mm unit (told gives setting unit)) (problems_of mm (map (row gives setting) units)) (All-head NamesPaths unit units paths)
+      (problems_name_paths units (All-tail NamesPaths unit units paths))
 
 -- ---- the whole
 
+abbrev answers_of : Subject → Told
+answers_of s = told outcome_of s.setting
+
 pub can_be_shown : (s : Subject) (kept : Kept) → IsOpened outcome_of s kept → CanBeShown s.setting.spec kept
 can_be_shown s kept h = record {
-  nodes = subst (All IsPath) (sym h.nodes) (nodes_are_paths (scene s) answers);
-  edges = subst (All JoinsPaths) (sym h.edges) (edges_are_joined (scene s) answers);
-  mappings = subst (All (HasMapping s.setting.spec)) (sym keys) (keys_are_mapped (scene s) answers);
-  grounded = subst (λ (ks : List AnyKey). All (HasGround ks) ks) (sym keys) (keys_grounded (scene s) answers);
-  problems = subst (All (λ (problem : Problem). NamesPaths problem.at)) (sym h.problems) (problems_name_paths s.setting.model.metamodel outcome_of s.setting (all_units outcome_of s) (all_name_paths (scene s) answers));
+  nodes = subst (All IsPath) (sym h.nodes) (nodes_are_paths (scene s) (answers_of s));
+  edges = subst (All JoinsPaths) (sym h.edges) (edges_are_joined (scene s) (answers_of s));
+  mappings = subst (All (HasMapping s.setting.spec)) (sym keys) (keys_are_mapped (scene s) (answers_of s));
+  grounded = subst (λ (ks : List AnyKey). All (HasGround ks) ks) (sym keys) (keys_grounded (scene s) (answers_of s));
+  problems = subst (All (λ (problem : Problem). NamesPaths problem.at)) (sym h.problems) (problems_name_paths s.setting.model.metamodel outcome_of s.setting (all_units outcome_of s) (all_name_paths (scene s) (answers_of s)));
 }
   where
-    abbrev answers : Told
-    answers = told outcome_of s.setting
-
-    keys : all_keys kept.nodes kept.edges ≡ keys_of (scene s) answers
-    keys = ap (λ (ns : List Key). all_keys ns kept.edges) h.nodes ∙ ap (all_keys (nodes (scene s) answers)) h.edges
+    keys : all_keys kept.nodes kept.edges ≡ keys_of (scene s) (answers_of s)
+    keys = ap (λ (ns : List Key). all_keys ns kept.edges) h.nodes ∙ ap (all_keys (nodes (scene s) (answers_of s))) h.edges
