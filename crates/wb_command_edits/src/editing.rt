@@ -38,7 +38,7 @@ fn edited_copy(alloc: Global, model: Model, edit: Edit) -> Result<EditedModel, M
     ensures refused { IfErr result (λ e. IsRefusal (named e) (edit_of edit model)) }
 {
     let mut changed = model;
-    match changed.edit(alloc, edit, &mut ChangeList) {
+    match changed.edit(alloc, edit, &mut ChangeList::new()) {
         Ok(made) => Ok(EditedModel { model: changed, made }),
         Err(refusal) => Err(refusal),
     }
