@@ -1,8 +1,14 @@
-//! Marks.
+//! What users put on a diagram: the elements they show and hide, where they place them, and what they switch.
 #![tactic(auto)]
 
+mod laws;
 mod lists;
+mod marking;
+mod marks;
+mod placing;
 mod sets;
+mod settling;
+mod switching;
 
-pub use lists::{put_one, without_one};
-pub use sets::set_of;
+pub use laws::{marks_are_distinct, marks_settle};
+pub use marks::Marks;
