@@ -1,4 +1,5 @@
-ghost use Rattle.std.specs.Prelude.{◌<◌, length, Some, Result, IfOk, IfSome, option_transpose};
+ghost use Rattle.std.specs.Prelude.{◌<◌, length, Some, Result, IfOk, IfSome};
+ghost use Rattle.std.specs.Option.{option_transpose};
 ghost use Rattle.wb_base.specs.Answering.{AsDefined};
 ghost use Rattle.wb_metamodel.specs.Metamodel.{Metamodel};
 ghost use Rattle.wb_model.specs.declared.edits.edit.Edit.{Edit};
