@@ -47,11 +47,7 @@ fn asked(edit: Result<Edit, NameRefusal>) -> Result<Option<Edit>, NameRefusal>
     }
 }
 
-fn create_named(
-    model: &Model,
-    class: &Text,
-    slot: &Option<NamedSlot>,
-) -> Result<Edit, NameRefusal>
+fn create_named(model: &Model, class: &Text, slot: &Option<NamedSlot>) -> Result<Edit, NameRefusal>
     ensures named { AsDefined named (create_named model.now class.now slot.now) result }
     ensures known { IfOk result (EditIsKnown model.now.metamodel) }
 {
