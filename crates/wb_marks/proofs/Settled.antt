@@ -16,8 +16,8 @@ use Rattle.wb_layout.specs.Orders.{is_key, key_cmp}
 use Rattle.wb_layout.specs.Positions.{Position, Positions, restricted}
 use Rattle.wb_layout.proofs.Kept.{get-restricted, all_kept}
 use Rattle.wb_layout.proofs.KeyOrder.{key_cmp_total, key_cmp-IsAntisymmetric}
-use Rattle.wb_marks.specs.SameKeys.{among, same_key}
-use Rattle.wb_marks.proofs.SameKeyLaws.{key_equiv, key_is}
+use Rattle.wb_answers.specs.SameKeys.{among, same_key}
+use Rattle.wb_answers.proofs.SameKeyLaws.{key_equiv, key_is}
 use Rattle.wb_marks.specs.Marks.{AreOf, is_declared, settled}
 use Rattle.wb_marks.specs.declared.marks.Marks.{Marks}
 
