@@ -1,5 +1,5 @@
 -- Marks that are settled.
-use Rattle.std.proofs.Common.{◌≡◌, Bool, true, false, ◌&&◌, cond, is_some, List, [], ◌∷◌, filter, Option, Some, None, refl, sym, ap, ◌∙◌, subst}
+use Rattle.std.proofs.Common.{◌≡◌, Bool, true, false, cond, List, [], ◌∷◌, filter, Option, Some, None, refl, sym, ap, ◌∙◌, subst}
 use Rattle.std.proofs.lemmas.Bool.{false≢true, and_parts, and_from}
 use Rattle.std.specs.Cmp.{eq_by_cmp_equiv}
 use Rattle.std.specs.FinMap.{get}
@@ -8,7 +8,6 @@ use Rattle.std.specs.Ordering.{is_eq}
 use Rattle.std.specs.Prelude.{IsSome}
 use Rattle.std.specs.declared.cmp.Ordering.{Ordering}
 use Rattle.std.specs.declared.cmp.Ordering.TheVariants as c
-use Rattle.wb_diagram.specs.declared.keys.AnyKey.{AnyKey}
 use Rattle.wb_diagram.specs.declared.keys.EdgeKey.{EdgeKey}
 use Rattle.wb_diagram.specs.declared.keys.Key.{Key}
 use Rattle.wb_layout.specs.Orders as orders
