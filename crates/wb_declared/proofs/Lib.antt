@@ -7,4 +7,5 @@ pub mod Marking
 pub mod NextLaws
 pub mod Paths
 pub mod Recorded
+pub mod Standing
 pub mod Tests

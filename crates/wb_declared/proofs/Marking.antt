@@ -1,5 +1,5 @@
 -- What a mark of one key changes: whether that key is declared, and nothing above it.
-use Rattle.std.proofs.Common.{◌≡◌, ◌+◌, ◌<◌, ◌≤◌, ℕ, suc, Bool, true, false, ◌&&◌, ◌||◌, nat_eq, List, [], ◌∷◌, ◌++◌, length, refl, sym, ap, subst, ◌∙◌, arith, append_assoc, length-append, ◌⊎◌}
+use Rattle.std.proofs.Common.{◌≡◌, ◌+◌, ◌<◌, ◌≤◌, ℕ, suc, Bool, true, false, ◌&&◌, ◌||◌, nat_eq, List, [], ◌∷◌, ◌++◌, length, refl, sym, ap, subst, ◌∙◌, arith, append_assoc, length-append, if◌then◌else◌}
 use Rattle.std.specs.List.{list_any}
 use Rattle.std.specs.Option.{option_map_or}
 use Rattle.std.proofs.lemmas.Bool.{false_from_ne_true}
@@ -36,6 +36,13 @@ marks_one_more key a = record {
     same : (b : Bool) → (b || false) ≡ b
     same true = refl
     same false = refl
+
+pub marks_unless_there : (key : Key) (a : List Key) → AlsoMarks key a (if among a key then a else a ++ key ∷ [])
+marks_unless_there key a = by (among a key) refl
+  where
+    by : (b : Bool) → among a key ≡ b → AlsoMarks key a (if b then a else a ++ key ∷ [])
+    by true is = record { own = is; others = λ k other. refl }
+    by false is = marks_one_more key a
 
 -- the answers, and not the marks, let the object stand there
 abbrev pub admits : Specification → Contents → Told → List Pair → Pair → CheckedNode → Bool

@@ -1,10 +1,12 @@
-ghost use Rattle.std.specs.Prelude.{◌≡◌, ◌++◌, ◌∷◌, [], length, IfOk};
-ghost use Rattle.std.specs.Option.{option_copied, option_map_or};
+ghost use Rattle.std.specs.Prelude.{◌≡◌, ◌<◌, ◌++◌, ◌∷◌, [], true, nat_eq, length, IfOk};
+ghost use Rattle.std.specs.List.{list_any};
+ghost use Rattle.std.specs.Option.{option_map_or};
 ghost use Rattle.wb_spec_check.specs.Checked.{IsCheckedBy};
+ghost use Rattle.wb_answers.specs.Meanings.{objects_of};
 ghost use Rattle.wb_answers.specs.SameKeys.{among};
-ghost use Rattle.wb_nodes.specs.Nodes.{is_cut, parent_of};
+ghost use Rattle.wb_nodes.specs.Nodes.{candidates_at, is_cut, parent_of};
 ghost use Rattle.wb_refresh.specs.Openings.{IsOpened};
-ghost use Rattle.wb_refresh.specs.Subjects.{setting, subject, subject_in};
+ghost use Rattle.wb_refresh.specs.Subjects.{subject};
 ghost use Rattle.wb_declared.specs.Declared.{declared_nodes};
 ghost use Rattle.wb_declared.specs.Standing.{fits_under, gives_object, gives_true, is_admitted, key_under, leads_to, may_stand, meets, would_stand};
 
@@ -12,7 +14,8 @@ use crate::mappings::{is_conditional, may_stand, node_mapping};
 use std::alloc::{AllocError, Global};
 use wb_answers::{is_true, objects_of};
 use wb_aql_eval::Evaluator;
-use wb_base::{Duplicate, List};
+use wb_aql_values::Answer;
+use wb_base::List;
 use wb_diagram::{Key, Pair, Unit};
 use wb_metamodel::ObjectId;
 use wb_model::Model;
