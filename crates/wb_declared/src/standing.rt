@@ -7,7 +7,7 @@ ghost use Rattle.wb_answers.specs.SameKeys.{among};
 ghost use Rattle.wb_nodes.specs.Nodes.{candidates_at, is_cut, parent_of};
 ghost use Rattle.wb_refresh.specs.Openings.{IsOpened};
 ghost use Rattle.wb_refresh.specs.Subjects.{subject};
-ghost use Rattle.wb_declared.specs.Declared.{declared_nodes};
+ghost use Rattle.wb_declared.specs.Declarations.{declared_nodes};
 ghost use Rattle.wb_declared.specs.Standing.{fits_under, gives_object, gives_true, is_admitted, key_under, leads_to, may_stand, meets, would_stand};
 
 use crate::mappings::{is_conditional, may_stand, node_mapping};

@@ -1,5 +1,5 @@
 use Rattle.std.proofs.Common.{◌∙◌}
-use Rattle.wb_declared.proofs.Standing.{found_among}
+use Rattle.wb_declared.proofs.OneKey.{found_among}
 use Rattle.wb_declared.proofs.standing.is_one_of.Goals as goal
 
 pub returns-in-Some : goal.returns-in-Some

@@ -1,7 +1,7 @@
 use Rattle.std.proofs.Common.{◌∙◌, ◌∷◌, [], ◌++◌, length, ap, sym}
 use Rattle.std.proofs.lemmas.Result.{IfOk-weaker}
 use Rattle.wb_refresh.specs.Subjects.{setting, subject}
-use Rattle.wb_declared.proofs.Standing.{none_without_pairs, one_mark_more}
+use Rattle.wb_declared.proofs.OneKey.{none_without_pairs, one_mark_more}
 use Rattle.wb_declared.proofs.standing.would_be_declared.Goals as goal
 
 pub returns-in-Some : goal.returns-in-Some
