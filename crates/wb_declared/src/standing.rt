@@ -126,8 +126,9 @@ fn fits_under(model: &Model, path: &[Pair], node: &CheckedNode, own: Pair) -> bo
     requires { node.now.objects.domain < length model.now.metamodel.classes }
     ensures { result ≡ fits_under model.now path.now node.now own }
 {
+    let object = own.object;
     let cut = is_cut(path, own);
-    model.is_of_class(own.object, node.objects.domain) && !cut
+    model.is_of_class(object, node.objects.domain) && !cut
 }
 
 // Does the pair stand in the path, or has the path 32 pairs already?
