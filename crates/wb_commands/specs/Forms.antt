@@ -1,6 +1,7 @@
 -- What a body says, command by command: the members that it may have, and what each stands for.
 use Rattle.std.specs.Prelude.{ℕ, ◌^◌, nat_lt, if◌then◌else◌, List, [], ◌∷◌, Option, Some, None, option_and_then, option_map, Result, Ok, Err, codes}
-use Rattle.serde_json.specs.Data.{Data, null, boolean, number, string, array, object}
+use Rattle.serde_json.specs.Data.{Data}
+use Rattle.serde_json.specs.Data as json
 use Rattle.serde_json.specs.Find.{as_number, as_u64, as_i64}
 use Rattle.wb_json.specs.Place.{Place}
 use Rattle.wb_json.specs.Form.{◌>>=◌, or_wrong, bool_of, text_of, integer_of, u32_of, name_of, nullable, word_of, listed, needed, optional}
@@ -44,12 +45,12 @@ object_value_of d = do
 
 -- a value: an integer of 64 signed bits, a boolean, a string, or an object
 unfoldable pub given_of : Data → Result Given Place
-given_of null = Err []
-given_of (boolean b) = Ok (g.Bool b)
-given_of (number n) = or_wrong (option_map g.Int (as_i64 n))
-given_of (string s) = Ok (g.Text s)
-given_of (array ds) = Err []
-given_of (object ms) = object_value_of (object ms)
+given_of json.null = Err []
+given_of (json.boolean b) = Ok (g.Bool b)
+given_of (json.number n) = or_wrong (option_map g.Int (as_i64 n))
+given_of (json.string s) = Ok (g.Text s)
+given_of (json.array ds) = Err []
+given_of (json.object ms) = object_value_of (json.object ms)
 
 -- ---- members that several commands have
 

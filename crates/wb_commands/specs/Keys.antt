@@ -4,7 +4,7 @@ use Rattle.std.specs.Prelude.{ℕ, ◌&&◌, ◌==◌, ◌^◌, nat_eq, nat_le, 
 use Rattle.std.specs.List.{list_all, slice_split}
 use Rattle.std.specs.Cmp.Lexicographic.{pointwise}
 use Rattle.std.specs.Str.Parse.{digits_value}
-use Rattle.wb_diagram.specs.Keys.{any_key_text}
+use Rattle.wb_diagram.specs.Keys.{any_key_text, semantic_pair}
 use Rattle.wb_diagram.specs.declared.keys.Pair.{Pair}
 use Rattle.wb_diagram.specs.declared.keys.Key.{Key}
 use Rattle.wb_diagram.specs.declared.keys.EdgeKey.{EdgeKey}
@@ -50,7 +50,7 @@ is_path key = nat_le 1 (length key.pairs) && nat_le (length key.pairs) 32 && lis
 
 abbrev pub has_form : AnyKey → Bool
 has_form (Node key) = is_path key
-has_form (Edge key) = nat_lt key.mapping (2 ^ 32) && nat_lt key.object (2 ^ 32) && is_path key.source && is_path key.target
+has_form (Edge key) = is_numbered (semantic_pair key) && is_path key.source && is_path key.target
 
 abbrev pub is_written_so : List ℕ → AnyKey → Bool
 is_written_so text key = has_form key && pointwise nat_eq text (any_key_text key)

@@ -25,7 +25,7 @@ pub(crate) struct Ends {
 }
 
 /// The word for an end of an edge.
-#[derive(Clone, Copy)]
+#[derive(Drop)]
 pub(crate) struct EndWord(End);
 
 impl Model for EndWord {

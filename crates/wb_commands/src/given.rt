@@ -1,3 +1,4 @@
+ghost use Rattle.std.specs.Prelude.{◌≡◌};
 ghost use Rattle.serde_json.specs.View.{view};
 ghost use Rattle.wb_json.specs.Form.{Gives};
 ghost use Rattle.wb_commands.specs.Forms.{given_of, object_value_of};

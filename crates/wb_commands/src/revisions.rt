@@ -8,7 +8,7 @@ use wb_json::{Form, Value, Wrong};
 const LARGEST: u64 = 9_007_199_254_740_991;
 
 /// The revision of a diagram.
-#[derive(Clone, Copy)]
+#[derive(Drop)]
 pub(crate) struct Revision(u64);
 
 impl Model for Revision {

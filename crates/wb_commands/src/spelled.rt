@@ -45,7 +45,7 @@ impl Form for SpelledKey {
     }
 }
 
-#[tactic(auto, using(crate::proofs::Spelled::key_found))]
+#[tactic(auto, using(crate::proofs::KeyTexts::key_found))]
 fn read_spelled(alloc: Global, text: &str) -> Result<SpelledKey, Wrong>
     ensures { Gives result (or_wrong (key_in text.now)) }
 {
