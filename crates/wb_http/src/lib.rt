@@ -1,0 +1,4 @@
+//! Requests and replies of HTTP: a request from the bytes of a connection, the route of a target, a reply's bytes.
+#![tactic(auto)]
+
+mod ends;
