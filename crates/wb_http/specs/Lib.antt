@@ -1,2 +1,4 @@
 pub mod Ends
 pub mod Fields
+pub mod Requests
+pub mod Heads

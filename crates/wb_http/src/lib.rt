@@ -3,3 +3,9 @@
 
 mod ends;
 mod fields;
+mod heads;
+mod refusals;
+mod requests;
+
+pub use refusals::HttpRefusal;
+pub use requests::Request;
