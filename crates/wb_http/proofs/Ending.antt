@@ -39,3 +39,11 @@ nothing_still FeedReturn = refl
 pub no_end : (mark : Mark) (bytes : List ℕ) (seen : ℕ) → length bytes ≤ seen → Tells mark (take seen bytes) → None ≡ head_length bytes
 no_end mark bytes seen all tells =
     sym (ap head_length (sym (append-nil bytes)) ∙ ap (λ b. head_length (b ++ [])) (sym (take_all seen bytes all)) ∙ tells [] ∙ ap (option_map (λ n. n + length (take seen bytes))) (nothing_still mark))
+
+nothing_before : (found : Option ℕ) → found ≡ option_map (λ n. n + 0) found
+nothing_before None = refl
+nothing_before (Some n) = ap Some (omega arith)
+
+-- before the first byte
+pub tells_none : (bytes : List ℕ) → Tells Blank (take 0 bytes)
+tells_none bytes rest = nothing_before (head_length rest)

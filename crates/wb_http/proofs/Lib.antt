@@ -1,2 +1,5 @@
 pub mod Ending
 pub mod Judging
+pub mod Moving
+pub mod Staying
+pub mod Fronting

@@ -24,8 +24,10 @@ pub record IsKept (bytes : List ℕ) (kept : Head) (head : RequestHead) : Type 0
   pub close : kept.close ≡ closes head
   pub body : announced head ≡ Ok kept.body
 
-abbrev pub IsWithinHead : List ℕ → Head → Type 0
-IsWithinHead bytes kept = IsWithin (length bytes) kept.method × IsWithin (length bytes) kept.target
+-- its spans lie in the head
+pub record IsWithinHead (bytes : List ℕ) (kept : Head) : Type 0 where
+  pub method : IsWithin (length bytes) kept.method
+  pub target : IsWithin (length bytes) kept.target
 
 abbrev pub Announces : List ℕ → RequestHead → Result Head HttpRefusal → Type 0
 Announces bytes head (Ok kept) = IsKept bytes kept head × IsWithinHead bytes kept

@@ -2,3 +2,5 @@ pub mod Ends
 pub mod Fields
 pub mod Requests
 pub mod Heads
+pub mod Reading
+pub mod Fronts

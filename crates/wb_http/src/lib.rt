@@ -4,8 +4,10 @@
 mod ends;
 mod fields;
 mod heads;
+mod held;
 mod refusals;
 mod requests;
 
+pub use held::Held;
 pub use refusals::HttpRefusal;
-pub use requests::Request;
+pub use requests::{Request, RequestEnd, read_request};
