@@ -1,7 +1,7 @@
 -- What stands at the front of bytes says what they begin with.
-use Rattle.std.proofs.Common.{◌≡◌, refl, ◌∙◌, sym, ap, subst, ℕ, ◌+◌, ◌-◌, ◌<◌, ◌≤◌, ◌⊎◌, inl, inr, not, ◌==◌, Bool, true, false, cond, nat_lt, List, [], ◌∷◌, ◌++◌, length, take, drop, Option, None, Some, Result, Ok, Err, codes, length-drop, length-append, arith}
+use Rattle.std.proofs.Common.{◌≡◌, refl, ◌∙◌, sym, ap, subst, ℕ, ◌+◌, ◌-◌, ◌<◌, ◌≤◌, ◌⊎◌, inl, inr, not, ◌==◌, Bool, true, false, cond, nat_lt, List, [], ◌∷◌, ◌++◌, length, take, drop, Option, None, Some, IfOk, IfErr, OnOk, OnErr, Result, Ok, Err, codes, min, length-drop, length-append, arith}
 use Rattle.std.specs.Str.{IsUtf8, bytes_eq}
-use Rattle.std.proofs.lemmas.List.{take-append-le, drop-append-le, drop-drop}
+use Rattle.std.proofs.lemmas.List.{take-append-le, drop-append-le, drop-drop, take_min}
 use Rattle.std.proofs.lemmas.List.Elements.{All-weaker}
 use Rattle.std.proofs.lemmas.Str.{IsUtf8-from_ascii}
 use Rattle.std.proofs.lemmas.Str.Ascii.{IsAscii-from_all}
@@ -17,12 +17,17 @@ use Rattle.wb_http.specs.declared.requests.Front.{Front}
 use Rattle.wb_http.specs.declared.requests.Request.{Request}
 use Rattle.wb_http.specs.declared.requests.RequestEnd.{RequestEnd}
 use Rattle.wb_http.specs.declared.requests.RequestEnd.TheVariants as ends
-use Rattle.wb_http.specs.Ends.{head_length, lines_of}
+use Rattle.wb_http.specs.Ends.{head_length, lines_of, Tells}
 use Rattle.wb_http.specs.Fields.{length_of}
 use Rattle.wb_http.specs.Heads.{IsJudged, IsJudgedShort}
 use Rattle.wb_http.specs.Requests.{head_limit, body_limit, line_limit, IsHead, within_limit, length_by, breaks_host, values_in, announced, closes, request_of, with_body, Taken, Whole, Bad, Short, JudgesLines, JudgesHead, TakesAt, Takes}
-use Rattle.wb_http.specs.Fronts.{Fills, HasFront, IsDoorEnd, IsEnd, Misses, request_at, request_limit}
-use Rattle.wb_http.proofs.Staying.{front_stays, front_fits}
+use Rattle.wb_http.specs.Fronts.{Fills, HasFront, IsDoorEnd, IsEnd, IsSeen, Misses, request_at, request_limit}
+use Rattle.wb_http.specs.declared.ends.Progress.{Progress}
+use Rattle.wb_http.specs.declared.ends.Mark.TheVariants.{Blank}
+use Rattle.wb_http.specs.Reading.{Answers, ReadsOne}
+use Rattle.wb_http.proofs.Ending.{tells_none}
+use Rattle.wb_http.proofs.Moving.{IsOwnEnd, gives_own}
+use Rattle.wb_http.proofs.Staying.{front_stays, front_fits, seen_stays, seen_within}
 
 takes_by : (bytes : List ℕ) (found : Option ℕ) (taken : Taken) → head_length (take head_limit bytes) ≡ found → TakesAt found bytes taken → Takes bytes taken
 unfolding Takes
@@ -132,3 +137,64 @@ misses_by bytes ends.Ended by short = short
 misses_by bytes ends.Failed by short = short
 misses_by bytes (ends.Bad refusal) by short = absurd by
 misses_by bytes ends.NoMemory by short = absurd by
+
+-- the head is refused
+pub own_bad : (bytes : List ℕ) (end : RequestEnd) → (refusal : HttpRefusal) × (end ≡ ends.Bad refusal) × Takes bytes (Bad refusal) → IsOwnEnd end
+own_bad bytes end bad = subst IsOwnEnd (sym bad.1) tt
+
+pub misses_bad : (bytes : List ℕ) (end : RequestEnd) → (refusal : HttpRefusal) × (end ≡ ends.Bad refusal) × Takes bytes (Bad refusal) → Misses bytes end
+misses_bad bytes end bad = subst (Misses bytes) (sym bad.1) bad.2
+
+-- what was seen of the bytes stays seen
+pub seen_on : (progress : Progress) (held got held' : List ℕ) → held' ≡ held ++ got → IsSeen progress held → IsSeen progress held'
+seen_on progress held got held' grown seen =
+    let longer : take progress.seen (take head_limit held') ≡ take progress.seen (take head_limit held) = ap (λ bytes. take progress.seen (take head_limit bytes)) grown ∙ seen_stays held got progress.seen seen.within in
+    record {
+      within = subst (λ bytes. progress.seen ≤ length (take head_limit bytes)) (sym grown) (seen_within held got progress.seen seen.within);
+      tells = subst (Tells progress.mark) (sym longer) seen.tells;
+    }
+
+pub seen_none : (bytes : List ℕ) → IsSeen (record { seen = 0; mark = Blank }) bytes
+seen_none bytes = record { within = omega arith; tells = tells_none (take head_limit bytes) }
+
+-- what a call found where none or a whole request stands is what it answers
+pub answers_miss : (bytes held' : List ℕ) (end : RequestEnd) → held' ≡ bytes → Misses held' end → Answers (Err end) bytes held'
+answers_miss bytes held' ends.Ended is misses = (subst (λ b. Takes b Short) is misses, is)
+answers_miss bytes held' ends.Failed is misses = (subst (λ b. Takes b Short) is misses, is)
+answers_miss bytes held' (ends.Bad refusal) is misses = (subst (λ b. Takes b (Bad refusal)) is misses, is)
+answers_miss bytes held' ends.NoMemory is misses = absurd misses
+
+pub one_missed : (held held' : List ℕ) (old new : DoorTold) (end : RequestEnd) → Fills held held' old new (Some end) → Misses held' end → ReadsOne held held' old new (Err end)
+one_missed held held' old new end fills misses = record { got = fills.got; gives = fills.gives; answered = answers_miss (held ++ fills.got) held' end fills.grown misses }
+
+pub one_made : (held held' rest : List ℕ) (old new : DoorTold) (front : Front) (request : Request) → Fills held held' old new None → HasFront held' front → front.end + front.head.body ≤ length held'
+    → request ≡ request_at held' front → rest ≡ drop (front.end + front.head.body) held' → ReadsOne held rest old new (Ok request)
+one_made held held' rest old new front request fills has whole made left =
+    let taken : Takes held' (Whole (request_at held' front) (drop (front.end + front.head.body) held')) = front_whole held' front has whole in
+    let same : Whole (request_at held' front) (drop (front.end + front.head.body) held') ≡ Whole request rest = ap (λ q. Whole q (drop (front.end + front.head.body) held')) (sym made) ∙ ap (Whole request) (sym left) in
+    record {
+      got = fills.got;
+      gives = fills.gives;
+      answered = subst (λ bytes. Takes bytes (Whole request rest)) fills.grown (subst (Takes held') same taken);
+    }
+
+unmade : (held held' : List ℕ) (old new : DoorTold) → Fills held held' old new None → ReadsOne held held' old new (Err ends.NoMemory)
+unmade held held' old new fills = record { got = fills.got; gives = gives_own ends.NoMemory old new fills.got tt fills.gives; answered = fills.grown }
+
+pub one_unmade : (held held' rest : List ℕ) (old new : DoorTold) (end : RequestEnd) → Fills held held' old new None → rest ≡ held' → end ≡ ends.NoMemory → ReadsOne held rest old new (Err end)
+one_unmade held held' rest old new end fills same is = subst (λ e. ReadsOne held rest old new (Err e)) (sym is) (subst (λ (r : List ℕ). ReadsOne held r old new (Err ends.NoMemory)) (sym same) (unmade held held' old new fills))
+
+-- the request, or want of memory for it
+pub one_taken : (held held' rest : List ℕ) (old new : DoorTold) (front : Front) (result : Result Request RequestEnd) → Fills held held' old new None → HasFront held' front → front.end + front.head.body ≤ length held'
+    → IfOk result (λ request. request ≡ request_at held' front) → OnOk result (rest ≡ drop (front.end + front.head.body) held') → OnErr result (rest ≡ held') → IfErr result (λ end. end ≡ ends.NoMemory) → ReadsOne held rest old new result
+one_taken held held' rest old new front (Ok request) fills has whole made left same is = one_made held held' rest old new front request fills has whole made left
+one_taken held held' rest old new front (Err end) fills has whole made left same is = one_unmade held held' rest old new end fills same is
+
+pub taken_within : (n m : ℕ) (bytes : List ℕ) → m ≡ min (length bytes) n → take m bytes ≡ take n bytes
+taken_within n m bytes is =
+    let turned : m ≡ min n (length bytes) = omega (arith, is) in
+    ap (λ (k : ℕ). take k bytes) turned ∙ take_min n bytes
+
+-- what is seen under one name is seen under another
+pub seen_at : (progress : Progress) (a b : List ℕ) → a ≡ b → IsSeen progress a → IsSeen progress b
+seen_at progress a b is = subst (IsSeen progress) is

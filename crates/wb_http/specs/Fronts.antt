@@ -4,12 +4,13 @@ use Rattle.httparse.specs.Spans.{span_bytes}
 use Rattle.wb_outer.specs.Door.{DoorTold, Reads}
 use Rattle.wb_outer.specs.declared.door.Got.{Got}
 use Rattle.wb_outer.specs.declared.door.Got.TheVariants as got
+use Rattle.wb_http.specs.declared.ends.Progress.{Progress}
 use Rattle.wb_http.specs.declared.heads.Head.{Head}
 use Rattle.wb_http.specs.declared.requests.Front.{Front}
 use Rattle.wb_http.specs.declared.requests.Request.{Request}
 use Rattle.wb_http.specs.declared.requests.RequestEnd.{RequestEnd}
 use Rattle.wb_http.specs.declared.requests.RequestEnd.TheVariants as ends
-use Rattle.wb_http.specs.Ends.{head_length, lines_of}
+use Rattle.wb_http.specs.Ends.{head_length, lines_of, Tells}
 use Rattle.wb_http.specs.Heads.{IsJudgedShort}
 use Rattle.wb_http.specs.Requests.{head_limit, line_limit, Taken, Bad, Short, Takes}
 use Rattle.wb_http.specs.Reading.{Gives}
@@ -45,6 +46,11 @@ IsWithinRoom got.Failed len room = ⊤
 -- a read into the room behind these bytes, and the bytes behind it
 abbrev pub ReadsBehind : List ℕ → List ℕ → ℕ → DoorTold → DoorTold → Got → Type 0
 ReadsBehind room room' len old new result = (piece : List ℕ) × Reads old new piece result × (take (len + read_of result) room' ≡ take len room ++ take (read_of result) piece)
+
+-- the bytes within the limit were looked through so far
+pub record IsSeen (progress : Progress) (bytes : List ℕ) : Type 0 where
+  pub within : progress.seen ≤ length (take head_limit bytes)
+  pub tells : Tells progress.mark (take progress.seen (take head_limit bytes))
 
 -- the head ends there; there is no end where too many bytes stand without one
 abbrev pub IsEnd : List ℕ → Option ℕ → Type 0

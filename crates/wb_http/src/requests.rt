@@ -1,12 +1,12 @@
 //! Requests, read from a connection.
-ghost use Rattle.std.specs.Prelude.{◌≡◌, ◌≤◌, ◌<◌, ◌+◌, Some, IfOk, IfErr, OnOk, OnErr, length, take};
+ghost use Rattle.std.specs.Prelude.{◌≡◌, ◌≤◌, ◌<◌, ◌+◌, Some, IfOk, IfErr, IfNone, OnOk, OnErr, length, take, drop};
 ghost use Rattle.wb_outer.specs.declared.door.Next.{Next};
 ghost use Rattle.wb_http.specs.Requests.{head_limit, Takes, Bad, Short};
 ghost use Rattle.wb_http.specs.declared.refusals.HttpRefusal.{HttpRefusal};
 ghost use Rattle.wb_http.specs.declared.requests.RequestEnd.{RequestEnd};
 ghost use Rattle.wb_http.specs.Ends.{head_length};
 ghost use Rattle.wb_http.specs.Reading.{ReadsOne, IsExact, end_of};
-ghost use Rattle.wb_http.specs.Fronts.{Fills, IsDoorEnd, IsEnd, HasFront, Misses, request_at, request_limit};
+ghost use Rattle.wb_http.specs.Fronts.{Fills, IsDoorEnd, IsEnd, IsSeen, HasFront, Misses, request_at, request_limit};
 
 use crate::ends::{Mark, Progress, find_end};
 use crate::heads::{Head, judge};
@@ -74,7 +74,21 @@ fn read_one<D: Door>(alloc: Global, door: &mut D, held: &mut Held) -> Result<Req
     requires { (D.told door.old).last ≡ Some Next.Line }
     ensures { ReadsOne held.old held.new (D.told door.old) (D.told door.new) result }
 {
-    let front = read_front(door, held)?;
+    match read_front(door, held) {
+        Ok(front) => take_front(alloc, held, front),
+        Err(end) => Err(end),
+    }
+}
+
+// Takes the request at the front off the bytes held.
+fn take_front(alloc: Global, held: &mut Held, front: Front) -> Result<Request, RequestEnd>
+    requires front { HasFront held.old front }
+    requires whole { front.end + front.head.body ≤ length held.old }
+    ensures made { IfOk result (λ request. request ≡ request_at held.old front) }
+    ensures rest { OnOk result (held.new ≡ drop (front.end + front.head.body) held.old) }
+    ensures same { OnErr result (held.new ≡ held.old) }
+    ensures no_memory { IfErr result (λ end. end ≡ RequestEnd.NoMemory) }
+{
     match make_request(alloc, held.as_slice(), front) {
         Ok(request) => {
             held.give(front.end + front.head.body);
@@ -110,9 +124,28 @@ fn read_front<D: Door>(door: &mut D, held: &mut Held) -> Result<Front, RequestEn
     ensures whole { IfOk result (λ front. front.end + front.head.body ≤ length held.new) }
     ensures misses { IfErr result (Misses held.new) }
 {
-    match read_head(door, held)? {
-        None => Err(RequestEnd::Bad(HttpRefusal::HeadTooLarge)),
+    match read_head(door, held) {
+        Ok(found) => read_found(door, held, found),
+        Err(end) => Err(end),
+    }
+}
+
+// Reads on where a head ends, or refuses one that is too large.
+fn read_found<D: Door>(
+    door: &mut D,
+    held: &mut Held,
+    found: Option<usize>,
+) -> Result<Front, RequestEnd>
+    requires at_hand { (D.told door.old).last ≡ Some Next.Line }
+    requires found { IsEnd held.old found }
+    ensures fills { Fills held.old held.new (D.told door.old) (D.told door.new) (end_of result) }
+    ensures front { IfOk result (HasFront held.new) }
+    ensures whole { IfOk result (λ front. front.end + front.head.body ≤ length held.new) }
+    ensures misses { IfErr result (Misses held.new) }
+{
+    match found {
         Some(end) => read_behind_head(door, held, end),
+        None => Err(RequestEnd::Bad(HttpRefusal::HeadTooLarge)),
     }
 }
 
@@ -129,8 +162,10 @@ fn read_behind_head<D: Door>(
     ensures whole { IfOk result (λ front. front.end + front.head.body ≤ length held.new) }
     ensures misses { IfErr result (Misses held.new) }
 {
-    let front = judge_front(held.as_slice(), end)?;
-    read_body(door, held, front)
+    match judge_front(held.as_slice(), end) {
+        Ok(front) => read_body(door, held, front),
+        Err(end) => Err(end),
+    }
 }
 
 // Judges the head that ends there.
@@ -156,8 +191,10 @@ fn read_body<D: Door>(door: &mut D, held: &mut Held, front: Front) -> Result<Fro
     ensures whole { IfOk result (λ front. front.end + front.head.body ≤ length held.new) }
     ensures misses { IfErr result (Misses held.new) }
 {
-    read_up_to(door, held, front.end + front.head.body)?;
-    Ok(front)
+    match read_up_to(door, held, front.end + front.head.body) {
+        Ok(()) => Ok(front),
+        Err(end) => Err(end),
+    }
 }
 
 // Reads on until so many bytes are held.
@@ -170,7 +207,10 @@ fn read_up_to<D: Door>(door: &mut D, held: &mut Held, total: usize) -> Result<()
     ensures ends { IfErr result IsDoorEnd }
 {
     'reads: while held.len() < total {
-        held.fill(door)?;
+        match held.fill(door) {
+            Ok(()) => {}
+            Err(end) => return Err(end),
+        }
     }
     Ok(())
 }
@@ -180,6 +220,15 @@ fn in_limit(bytes: &[u8]) -> &[u8]
     ensures { result.now ≡ take head_limit bytes.now }
 {
     &bytes[..bytes.len().min(16_384)]
+}
+
+// Looks on for the end of a head in the first bytes.
+fn find_head(bytes: &[u8], progress: &mut Progress) -> Option<usize>
+    requires { IsSeen progress.old bytes.now }
+    ensures found { result ≡ head_length (take head_limit bytes.now) }
+    ensures seen { IfNone result (IsSeen progress.new bytes.now) }
+{
+    find_end(in_limit(bytes), progress)
 }
 
 // Reads on until a head ends, and says where; `None` where too many bytes stand without the end of one.
@@ -195,7 +244,7 @@ fn read_head<D: Door>(door: &mut D, held: &mut Held) -> Result<Option<usize>, Re
         mark: Mark::Blank,
     };
     'reads: loop {
-        let end = find_end(in_limit(held.as_slice()), &mut progress);
+        let end = find_head(held.as_slice(), &mut progress);
         match end {
             Some(_) => return Ok(end),
             None => {}
@@ -203,6 +252,9 @@ fn read_head<D: Door>(door: &mut D, held: &mut Held) -> Result<Option<usize>, Re
         if held.len() >= 16_384 {
             return Ok(None);
         }
-        held.fill(door)?;
+        match held.fill(door) {
+            Ok(()) => {}
+            Err(end) => return Err(end),
+        }
     }
 }
