@@ -29,7 +29,7 @@ use Rattle.wb_http.proofs.Ending.{tells_none}
 use Rattle.wb_http.proofs.Moving.{IsOwnEnd, gives_own}
 use Rattle.wb_http.proofs.Staying.{front_stays, front_fits, seen_stays, seen_within}
 
-takes_by : (bytes : List ℕ) (found : Option ℕ) (taken : Taken) → head_length (take head_limit bytes) ≡ found → TakesAt found bytes taken → Takes bytes taken
+pub takes_by : (bytes : List ℕ) (found : Option ℕ) (taken : Taken) → head_length (take head_limit bytes) ≡ found → TakesAt found bytes taken → Takes bytes taken
 unfolding Takes
 takes_by bytes found taken is by = subst (λ f. TakesAt f bytes taken) (sym is) by
 
@@ -62,7 +62,7 @@ length_small false [] n is =
 length_small is_post (value ∷ []) n is = limit_small (length_of value) n is
 length_small is_post (value ∷ other ∷ more) n is = absurd (cc is)
 
-announced_small : (head : RequestHead) (n : ℕ) → announced head ≡ Ok n → n ≤ body_limit
+pub announced_small : (head : RequestHead) (n : ℕ) → announced head ≡ Ok n → n ≤ body_limit
 announced_small head n is = by (breaks_host head) (not (length (values_in head (codes "transfer-encoding")) == 0)) is
   where
     by : (u v : Bool) → cond u (Err BadHead) (cond v (Err NotImplemented) (length_by (bytes_eq head.method (codes "POST")) (values_in head (codes "content-length")))) ≡ Ok n → n ≤ body_limit

@@ -4,3 +4,4 @@ pub mod Requests
 pub mod Heads
 pub mod Reading
 pub mod Fronts
+pub mod Laws
