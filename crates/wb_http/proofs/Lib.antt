@@ -5,3 +5,5 @@ pub mod Staying
 pub mod Fronting
 pub mod Deciding
 pub mod Exact
+pub mod Table
+pub mod Targets

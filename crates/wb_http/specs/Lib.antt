@@ -5,3 +5,5 @@ pub mod Heads
 pub mod Reading
 pub mod Fronts
 pub mod Laws
+pub mod Routes
+pub mod Replies
