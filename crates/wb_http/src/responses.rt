@@ -1,5 +1,5 @@
 //! The bytes of a reply.
-ghost use Rattle.std.specs.Prelude.{◌≡◌, ◌++◌, IfOk, OnOk, [], length, string_bytes, codes, option_map};
+ghost use Rattle.std.specs.Prelude.{◌≡◌, ◌++◌, IfOk, OnOk, [], length, string_bytes, codes, decimal, option_map};
 ghost use Rattle.http.specs.StatusCode.{IsStatusCode};
 ghost use Rattle.wb_http.specs.Replies.{allow_line, close_line, first_lines, line, phrase, response};
 
@@ -18,12 +18,27 @@ fn phrase_of(status: u16) -> &'static str
     }
 }
 
+fn push_status(head: &mut String, status: u16) -> Result<(), AllocError>
+    requires { IsStatusCode status }
+    ensures { OnOk result (string_bytes head.new ≡ string_bytes head.old ++ line (codes "HTTP/1.1 " ++ decimal status ++ codes " " ++ phrase status)) }
+{
+    let phrase = phrase_of(status);
+    write!(head, "HTTP/1.1 {status} {phrase}\r\n")
+}
+
+fn push_length(head: &mut String, count: usize) -> Result<(), AllocError>
+    ensures { OnOk result (string_bytes head.new ≡ string_bytes head.old ++ line (codes "Content-Length: " ++ decimal count)) }
+{
+    write!(head, "Content-Length: {count}\r\n")
+}
+
 fn push_first_lines(head: &mut String, status: u16, count: usize) -> Result<(), AllocError>
     requires { IsStatusCode status }
     ensures { OnOk result (string_bytes head.new ≡ string_bytes head.old ++ first_lines status count) }
 {
-    let phrase = phrase_of(status);
-    write!(head, "HTTP/1.1 {status} {phrase}\r\nContent-Type: application/json\r\nContent-Length: {count}\r\n")
+    push_status(head, status)?;
+    head.push_str("Content-Type: application/json\r\n")?;
+    push_length(head, count)
 }
 
 fn start_head(alloc: Global, status: u16, count: usize) -> Result<Vec<u8>, AllocError>
