@@ -1,0 +1,13 @@
+-- The number so far, and the digits to come, are those of the value.
+use Rattle.std.proofs.Common.{◌≡◌, ◌<◌, ◌^◌, true, drop, take}
+use Rattle.std.specs.Char.{is_ascii_digit}
+use Rattle.std.specs.List.{list_all}
+use Rattle.std.specs.Str.Parse.{digits_value_after}
+use Rattle.wb_http.proofs.fields.read_length.Given as goal
+
+abbrev pub invariant-loop-digit : goal.invariant-loop-digit
+invariant-loop-digit l = record {
+  read : digits_value_after 10 l.number (drop l.digit-index l.value) ≡ digits_value_after 10 0 l.value;
+  digits : list_all is_ascii_digit (drop l.digit-index l.value) ≡ list_all is_ascii_digit l.value;
+  small : l.number < 10 ^ l.digit-index;
+}

@@ -1,0 +1,10 @@
+-- The same is left before the spaces.
+use Rattle.std.proofs.Common.{◌≡◌, length, reverse}
+use Rattle.httparse.specs.Grammar.{skip_ows}
+use Rattle.wb_http.proofs.fields.without_end.Given as goal
+
+abbrev pub invariant-loop-rest : goal.invariant-loop-rest
+invariant-loop-rest l = skip_ows (reverse l.rest) ≡ skip_ows (reverse l.member)
+
+abbrev pub decreases-loop-rest : goal.decreases-loop-rest
+decreases-loop-rest l = length l.rest

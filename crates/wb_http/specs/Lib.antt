@@ -1,0 +1,9 @@
+pub mod Ends
+pub mod Fields
+pub mod Requests
+pub mod Heads
+pub mod Reading
+pub mod Fronts
+pub mod Laws
+pub mod Routes
+pub mod Replies
