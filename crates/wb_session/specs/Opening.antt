@@ -8,7 +8,7 @@ use Rattle.wb_picture.specs.Opening.{opening_layers}
 use Rattle.wb_refresh.specs.Openings.{is_too_large}
 use Rattle.wb_refresh.specs.Outcomes.{Gives}
 use Rattle.wb_refresh.specs.Subjects.{subject}
-use Rattle.wb_marks.specs.Marks.{none_marked}
+use Rattle.wb_marks.specs.Marks.{unmarked}
 use Rattle.wb_session.specs.declared.opening.OpenRefusal.{OpenRefusal}
 use Rattle.wb_session.specs.declared.opening.OpenRefusal.TheVariants.{NoRoot, TooLarge, NoMemory}
 use Rattle.wb_session.specs.States.{State, body}
@@ -18,7 +18,7 @@ abbrev pub root_element : Contents → (class : ℕ) → Option ℕ
 root_element m class = find (conforms_to m class) m.roots
 
 abbrev pub opened_state : Specification → Contents → (root : ℕ) → State
-opened_state spec m root = record { spec = spec; root = root; next = m.next; body = body m (none_marked (opening_layers spec)); revision = 0; past = []; future = [] }
+opened_state spec m root = record { spec = spec; root = root; next = m.next; body = body m (unmarked (opening_layers spec)); revision = 0; past = []; future = [] }
 
 -- from a root element, unless the diagram is too large
 unfoldable pub opened_from : Gives → Specification → Contents → (root : ℕ) → Result State OpenRefusal

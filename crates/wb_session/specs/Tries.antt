@@ -19,11 +19,11 @@ use Rattle.wb_model.specs.GivenEdits.{edit_of, number_made}
 use Rattle.wb_nodes.specs.Nodes.{child}
 use Rattle.wb_refresh.specs.Outcomes.{Gives}
 use Rattle.wb_refresh.specs.Subjects.{Subject, subject}
-use Rattle.wb_command_edits.specs.Naming.{edit_named}
+use Rattle.wb_command_edits.specs.NamedEdits.{edit_named}
 use Rattle.wb_command_edits.specs.declared.refusal.NameRefusal.{NameRefusal}
 use Rattle.wb_command_edits.specs.declared.refusal.NameRefusal.TheVariants as name
 use Rattle.wb_declared.specs.Declared.{declared_nodes}
-use Rattle.wb_marks.specs.Marks.{arranged, hidden_too, layer_switched, filter_switched, placed, revealed, shown_too, unshown}
+use Rattle.wb_marks.specs.Marks.{arranged, hidden_too, placed, revealed, shown_too, unshown, with_filter, with_layer}
 use Rattle.wb_marks.specs.declared.marks.Marks.{Marks}
 use Rattle.wb_targets.specs.Targets.{additional_layer_named, filter_named, is_placeable, is_unsynchronised, mapping_named, placeable}
 use Rattle.wb_session.specs.declared.refusal.Refusal.{Refusal}
@@ -107,11 +107,11 @@ unshown_any s (Edge key) = Err r.NotUnsynchronised
 -- ---- switches
 
 abbrev pub layered : State → (active : Bool) → Option ℕ → Result Tried Refusal
-layered s active (Some n) = marked s (layer_switched n active s.body.marks)
+layered s active (Some n) = marked s (with_layer n active s.body.marks)
 layered s active None = Err r.UnknownLayer
 
 abbrev pub filtered : State → (active : Bool) → Option ℕ → Result Tried Refusal
-filtered s active (Some n) = marked s (filter_switched n active s.body.marks)
+filtered s active (Some n) = marked s (with_filter n active s.body.marks)
 filtered s active None = Err r.UnknownFilter
 
 module _ (gives : Gives) where

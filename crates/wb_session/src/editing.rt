@@ -1,7 +1,7 @@
 ghost use Rattle.std.specs.Prelude.{◌≡◌, IfOk};
 ghost use Rattle.wb_session.specs.Answering.{Gives};
 ghost use Rattle.wb_session.specs.States.{model_of};
-ghost use Rattle.wb_session.specs.Tries.{asked_edit, edited};
+ghost use Rattle.wb_session.specs.Tries.{asked_edit, edited, marked};
 ghost use Rattle.wb_session.specs.invariants.Keeping.{GoesOn, tried_of};
 ghost use Rattle.wb_model.specs.GivenEdits.{EditIsKnown};
 
@@ -40,7 +40,7 @@ impl<E: Evaluator> Session<E> {
             Ok(made) => Ok(TriedState {
                 model: made.model,
                 marks,
-                created: made.created,
+                created: made.made,
                 turn: Turn::Forward,
             }),
             Err(ModelRefusal::NoMemory) => Err(Refusal::NoMemory),

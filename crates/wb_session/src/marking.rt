@@ -1,10 +1,8 @@
 ghost use Rattle.std.specs.Prelude.{◌≡◌, false, IfOk};
-ghost use Rattle.std.specs.List.{list_any};
 ghost use Rattle.std.specs.Option.{option_map_or};
 ghost use Rattle.wb_diagram.specs.declared.keys.AnyKey.TheVariants.{Node as NodeKey};
 ghost use Rattle.wb_spec_check.specs.Units.{mapping_of_key};
-ghost use Rattle.wb_answers.specs.SameKeys.{same_any};
-ghost use Rattle.wb_refresh.specs.Diagrams.{all_keys};
+ghost use Rattle.wb_marks.specs.Marks.{is_declared as is_of};
 ghost use Rattle.wb_targets.specs.Targets.{is_unsynchronised};
 ghost use Rattle.wb_session.specs.Answering.{Gives};
 ghost use Rattle.wb_session.specs.States.{AreLawful, is_declared, subject_of};
@@ -165,7 +163,7 @@ impl<E: Evaluator> Session<E> {
 
 // Is the key one of these elements or edges?
 fn is_among(nodes: &[Key], edges: &[EdgeKey], key: &AnyKey) -> bool
-    ensures { result ≡ list_any (same_any key.now) (all_keys nodes.now edges.now) }
+    ensures { result ≡ is_of nodes.now edges.now key.now }
 {
     match key {
         AnyKey::Node(key) => nodes.contains(key),

@@ -2,7 +2,7 @@ ghost use Rattle.std.specs.Prelude.{◌≡◌, ◌<◌, true, [], length, IfOk};
 ghost use Rattle.wb_validity.specs.Valid.{conforms_to};
 ghost use Rattle.wb_base.specs.Answering.{AsDefined};
 ghost use Rattle.wb_history.specs.Stacks.{unbegun};
-ghost use Rattle.wb_marks.specs.Marks.{none_marked};
+ghost use Rattle.wb_marks.specs.Marks.{unmarked};
 ghost use Rattle.wb_picture.specs.Opening.{opening_layers};
 ghost use Rattle.wb_refresh.specs.Openings.{IsOpened};
 ghost use Rattle.wb_refresh.specs.Subjects.{subject};
@@ -144,7 +144,7 @@ fn begin<E: Evaluator>(
 ) -> Result<Begun<E>, OpenRefusal>
     requires { IsCheckedBy model.now.metamodel spec.now }
     ensures given { Opens (opened_from E.outcome_by spec.now model.now root) (opened_state spec.now model.now root) result }
-    ensures marks { IfOk result (λ begun. begun.marks ≡ none_marked (opening_layers spec.now)) }
+    ensures marks { IfOk result (λ begun. begun.marks ≡ unmarked (opening_layers spec.now)) }
     ensures history { IfOk result (λ begun. begun.history ≡ unbegun 100) }
     ensures diagram { IfOk result (λ begun. IsOpened E.outcome_by (subject spec.now model.now root []) begun.diagram) }
 {

@@ -1,5 +1,6 @@
 -- What stands for what in a session's memory.
-use Rattle.std.specs.Prelude.{◌≡◌, ℕ, ◌≤◌, ◌<◌, List, [], ◌∷◌, ◌++◌, length, map, All, true, IsSome, Option, refl, Result, Ok, Err}
+use Rattle.std.specs.Prelude.{◌≡◌, ℕ, ◌≤◌, ◌<◌, List, [], ◌∷◌, ◌++◌, length, map, true, IsSome, Option, refl, Result, Ok, Err}
+use Rattle.std.specs.List.{AllByRecursion}
 use Rattle.std.specs.Coded.{Coded, code_by, coded×, coded_list, coded_ℕ}
 use Rattle.circular_buffer.specs.Buffer.{keep_last}
 use Rattle.wb_store.specs.Contents.{Contents}
@@ -53,7 +54,7 @@ state_of spec root model marks revision history = record {
 
 -- each kept model has numbers that were given
 abbrev pub AreOlder : ℕ → List Entry → Type 0
-AreOlder next entries = All (λ (e : Entry). e.model.next ≤ next) entries
+AreOlder next entries = AllByRecursion (λ (e : Entry). e.model.next ≤ next) entries
 
 pub record IsKept (gives : Gives) (spec : Specification) (root : ℕ) (model : Contents) (marks : Marks) (revision : ℕ) (history : Stacks Entry) (diagram : Kept) : Type 0 where
   pub good : IsGood gives (state_of spec root model marks revision history)
