@@ -37,6 +37,7 @@ use Rattle.wb_session.specs.Steps.{future_after, past_after, settled_body, stand
 use Rattle.wb_session.specs.Tries.{Tried}
 use Rattle.wb_session.specs.invariants.Keeping.{CanTurn}
 use Rattle.wb_session.proofs.Lists.{all_append, all_drop, all_mapped, all_take}
+use Rattle.wb_marks.proofs.Apart.{settled_apart}
 use Rattle.wb_session.proofs.Settling.{becomes_settled, settled_alike, settling_declares_alike}
 
 -- ---- lawful marks
@@ -45,15 +46,11 @@ some_of : {A : Type 0} (b : Bool) (o : Option A) → IsSome (cond b o None) → 
 some_of true o h = h
 some_of false o h = absurd h
 
-if_some_of : {A : Type 0} (P : A → Type 0) (b : Bool) (o : Option A) → IfSome o P → IfSome (cond b o None) P
-if_some_of P true o h = h
-if_some_of P false o h = tt
-
 pub lawful_settled : (spec : Specification) (ns : List Key) (es : List EdgeKey) (marks : Marks) → AreLawful spec marks → AreLawful spec (settled ns es marks)
 lawful_settled spec ns es marks h = record {
   shown = filter-keeps (λ (key : Key). option_map_or (is_unsynchronised spec) (mapping_of_key (Node key)) false ≡ true) (among ns) marks.shown h.shown;
   placed = λ key is. h.placed key (some_of (is_key ns key) (positions.get marks.layout key) (subst IsSome (get-restricted marks.layout ns key) is));
-  in_range = λ key. subst (λ (at : Option Position). IfSome at IsInRange) (sym (get-restricted marks.layout ns key)) (if_some_of IsInRange (is_key ns key) (positions.get marks.layout key) (h.in_range key));
+  distinct = settled_apart ns es marks h.distinct;
 }
 
 -- ---- the next number
@@ -80,14 +77,16 @@ module _ (gives : Gives) where
   module _ (undropped : (st : Setting) (shown : List Key) → DeclaresAlike gives (subject_in st shown) (subject_in st (settled_marks gives st shown))) where
     pub becomes_good : (spec : Specification) (root : ℕ) (m : Contents) (marks : Marks) → IsValid m → IsCheckedBy m.metamodel spec → conforms_to m spec.1.domain root ≡ true
         → is_too_large gives (subject spec m root marks.shown) ≡ false → AreLawful spec marks
+        → ((key : Key) → IfSome (positions.get (settled (declared_nodes gives (subject spec m root marks.shown)) (declared_edges gives (subject spec m root marks.shown)) marks).layout key) IsInRange)
         → IsGoodBody gives spec root m.next (settled_body gives (subject spec m root marks.shown) (body m marks))
-    becomes_good spec root m marks valid checked conforms fits lawful = record {
+    becomes_good spec root m marks valid checked conforms fits lawful in_range = record {
       checked = checked;
       valid = valid;
       root = conforms;
       fits = (settling_declares_alike gives undropped spec root m.next (body m marks)).too_large ∙ fits;
       settled = becomes_settled gives undropped spec root m.next (body m marks);
       lawful = lawful_settled spec (declared_nodes gives (subject spec m root marks.shown)) (declared_edges gives (subject spec m root marks.shown)) marks lawful;
+      in_range = in_range;
     }
 
   -- ---- good states stay good
@@ -103,6 +102,7 @@ module _ (gives : Gives) where
           fits = alike.too_large ∙ g.fits;
           settled = settled_alike gives (subject_at spec root n b) (subject_at spec root k b) b.marks alike g.settled;
           lawful = g.lawful;
+          in_range = g.in_range;
         }
 
     module _ (s : State) (k revision : ℕ) (b : Body) (later : s.next ≤ k) (risen : revision ≤ 9007199254740991) (g : IsGood gives s) (h : IsGoodBody gives s.spec s.root k b) where

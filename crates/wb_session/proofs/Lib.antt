@@ -1,6 +1,7 @@
 pub mod Becoming
 pub mod Goods
 pub mod Histories
+pub mod Lawful
 pub mod Lists
 pub mod Settling
 pub mod Showable

@@ -11,6 +11,7 @@ use Rattle.wb_declared.specs.Declared.{DeclaresAlike, declared_edges, declared_n
 use Rattle.wb_declared.specs.Marks.{settled as settled_marks}
 use Rattle.wb_marks.specs.Marks.{AreOf, settled}
 use Rattle.wb_marks.specs.declared.marks.Marks.{Marks}
+use Rattle.wb_marks.proofs.Settling.{settled_of, settled_stay}
 use Rattle.wb_session.specs.States.{AreLawful, AreSettled, Body, model_at, subject_at}
 use Rattle.wb_session.specs.Steps.{settled_body}
 
@@ -32,8 +33,8 @@ module _ (gives : Gives) where
     becomes_settled spec root next b =
         let s = subject_at spec root next b in
         settled_alike s (subject_at spec root next (settled_body gives s b)) (settled_body gives s b).marks (settling_declares_alike spec root next b)
-        (settled_are_of (declared_nodes gives s) (declared_edges gives s) b.marks)
+        (settled_of (declared_nodes gives s) (declared_edges gives s) b.marks)
 
   -- settled marks stay
   pub settled_stays : (s : Subject) (marks : Marks) → AreSettled gives s marks → settled (declared_nodes gives s) (declared_edges gives s) marks ≡ marks
-  settled_stays s marks h = settled_as_they_are (declared_nodes gives s) (declared_edges gives s) marks h
+  settled_stays s marks h = settled_stay (declared_nodes gives s) (declared_edges gives s) marks h

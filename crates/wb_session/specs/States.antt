@@ -16,7 +16,7 @@ use Rattle.wb_refresh.specs.Outcomes.{Gives}
 use Rattle.wb_refresh.specs.Subjects.{Subject, subject}
 use Rattle.wb_declared.specs.Declared.{declared_edges, declared_nodes}
 use Rattle.wb_marks.specs.Marks as marks
-use Rattle.wb_marks.specs.Marks.{AreOf}
+use Rattle.wb_marks.specs.Marks.{AreDistinct, AreOf}
 use Rattle.wb_marks.specs.declared.marks.Marks.{Marks}
 use Rattle.wb_targets.specs.Targets.{is_placeable, is_unsynchronised}
 
@@ -61,11 +61,11 @@ is_declared gives s key = marks.is_declared (declared_nodes gives s) (declared_e
 
 -- ---- good states
 
--- shown marks stand in unsynchronised mappings, and positions on what can be placed, in range
+-- shown marks stand in unsynchronised mappings, and positions on what can be placed; nothing is marked or switched twice
 pub record AreLawful (spec : Specification) (marks : Marks) : Type 0 where
   pub shown : AllByRecursion (λ (key : Key). option_map_or (is_unsynchronised spec) (mapping_of_key (Node key)) false ≡ true) marks.shown
   pub placed : (key : Key) → IsSome (positions.get marks.layout key) → is_placeable spec key ≡ true
-  pub in_range : (key : Key) → IfSome (positions.get marks.layout key) IsInRange
+  pub distinct : AreDistinct marks
 
 -- each mark and position stands on what is declared
 abbrev pub AreSettled : Gives → Subject → Marks → Type 0
@@ -80,6 +80,7 @@ module _ (gives : Gives) where
     pub fits : is_too_large gives (subject_at spec root next b) ≡ false
     pub settled : AreSettled gives (subject_at spec root next b) b.marks
     pub lawful : AreLawful spec b.marks
+    pub in_range : (key : Key) → IfSome (positions.get b.marks.layout key) IsInRange
 
   -- the same holds of every body in past and future, whose objects' numbers are less than the next, and together they are at most 100
   pub record IsGood (s : State) : Type 0 where
