@@ -1,0 +1,5 @@
+pub mod Alike
+pub mod Keys
+pub mod Lists
+pub mod MarkLaws
+pub mod NextLaws
