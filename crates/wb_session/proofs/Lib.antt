@@ -3,6 +3,7 @@ pub mod Goods
 pub mod Histories
 pub mod Lawful
 pub mod Lists
+pub mod Opened
 pub mod Settling
 pub mod Showable
 pub mod Taking
