@@ -1,5 +1,5 @@
 -- The state that a command tries, or why it is refused before one is tried.
-use Rattle.std.specs.Prelude.{ℕ, ℤ, Bool, not, ◌&&◌, nat_abs, nat_le, nat_eq, List, [], Option, Some, None, Result, Ok, Err, if◌then◌else◌}
+use Rattle.std.specs.Prelude.{ℕ, ℤ, Bool, not, ◌&&◌, nat_abs, nat_le, nat_eq, List, [], ◌∷◌, ◌++◌, Option, Some, None, Result, Ok, Err, if◌then◌else◌}
 use Rattle.std.specs.Option.{option_map_or}
 use Rattle.circular_buffer.specs.Buffer.{last_item}
 use Rattle.wb_base.specs.Results.{◌>>=◌}
@@ -134,7 +134,7 @@ module _ (gives : Gives) where
 
   -- would the element be declared if it had the mark?
   abbrev pub would_be_declared : State → Key → Bool
-  would_be_declared s key = among (declared_nodes gives (subject s.spec (model_of s) s.root (shown_too key s.body.marks).shown)) key
+  would_be_declared s key = among (declared_nodes gives (subject s.spec (model_of s) s.root (s.body.marks.shown ++ key ∷ []))) key
 
   abbrev pub shown_candidate : State → Key → Result Tried Refusal
   shown_candidate s key = if would_be_declared s key then marked s (shown_too key s.body.marks) else Err r.NotCandidate

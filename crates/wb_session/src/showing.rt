@@ -1,4 +1,4 @@
-ghost use Rattle.std.specs.Prelude.{◌≡◌, true, IfOk, Ok, Err, Result, map};
+ghost use Rattle.std.specs.Prelude.{◌≡◌, true, IfOk};
 ghost use Rattle.wb_answers.specs.SameKeys.{among};
 ghost use Rattle.wb_declared.specs.Declared.{declared_nodes};
 ghost use Rattle.wb_diagram.specs.declared.commands.Action.TheVariants as a;
@@ -100,6 +100,21 @@ impl<E: Evaluator> Session<E> {
         }
         let marks = self.marks.shown_too(alloc, key)?;
         self.remarked(alloc, marks)
+    }
+
+    /// Would the element be declared if it had the mark? Nothing is evaluated.
+    fn would_be_declared(&self, alloc: Global, key: &Key) -> Result<bool, AllocError>
+        ensures { IfOk result (λ would. would ≡ would_be_declared E.outcome_by self.now key.now) }
+    {
+        would_be_declared(
+            alloc,
+            &self.spec,
+            &self.model,
+            self.root,
+            self.marks.shown.as_slice(),
+            &self.diagram,
+            key,
+        )
     }
 }
 
