@@ -2,6 +2,7 @@
 use Rattle.std.proofs.Common.{◌≡◌, ◌<◌, ℕ, Bool, true, false, not, ◌∷◌, cond, Option, Some, None, refl, sym, ap, subst, ◌∙◌, arith, ⊎_elim}
 use Rattle.std.specs.Prelude.{IsSome, Ok}
 use Rattle.std.specs.Option.{option_map_or}
+use Rattle.std.proofs.lemmas.Bool.{false≢true}
 use Rattle.wb_metamodel.specs.Metamodel.{Metamodel, conforms}
 use Rattle.wb_metamodel.specs.WellFormed.{WellFormed}
 use Rattle.wb_store.specs.Contents.{Contents, kind}
@@ -23,7 +24,7 @@ use Rattle.wb_model.proofs.PlainFeatures.{create-others, move-others}
 
 left_by : (b : Bool) (k : Option ℕ) → IsSome (cond b k None) → cond b k None ≡ k
 left_by true k h = refl
-left_by false k h = absurd h
+left_by false k h = absurd (false≢true h)
 
 module _ (m n : Contents) (well : WellFormed m.metamodel) (valid : IsValid m) (x : ℕ) (live : IsSome (kind m x)) where
   old : x < m.next
@@ -46,6 +47,6 @@ module _ (m n : Contents) (well : WellFormed m.metamodel) (valid : IsValid m) (x
 pub conforms_still : (edit : Edit) (m n : Contents) (c x : ℕ) → WellFormed m.metamodel → IsValid m → edit_of edit m ≡ Ok n → conforms_to m c x ≡ true → is_live n x ≡ true → conforms_to n c x ≡ true
 conforms_still edit m n c x well valid e conforms_now stays =
     let found = kind-at m x (λ (d : ℕ). conforms m.metamodel d c) conforms_now in
-    let same = same_class m n well valid x (some-kind m x found.0 found.1.0) edit e stays in
+    let same = same_class m n well valid x (some-kind m x found.0 found.1) edit e stays in
     ap (λ (mm : Metamodel). option_map_or (λ (d : ℕ). conforms mm d c) (kind n x) false) (given-metamodel edit m n e)
     ∙ (ap (λ (k : Option ℕ). option_map_or (λ (d : ℕ). conforms m.metamodel d c) k false) same ∙ conforms_now)
