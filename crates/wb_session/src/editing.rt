@@ -3,6 +3,7 @@ ghost use Rattle.wb_session.specs.Answering.{Gives};
 ghost use Rattle.wb_session.specs.States.{model_of};
 ghost use Rattle.wb_session.specs.Tries.{asked_edit, edited, marked};
 ghost use Rattle.wb_session.specs.invariants.Keeping.{GoesOn, tried_of};
+ghost use Rattle.wb_metamodel.specs.WellFormed.{WellFormed};
 ghost use Rattle.wb_model.specs.GivenEdits.{EditIsKnown};
 ghost use Rattle.wb_session.specs.Answering.{of_edit};
 ghost use Rattle.wb_session.specs.declared.turn.Turn.TheVariants.{Forward as Onward};
@@ -17,7 +18,7 @@ use wb_base::Duplicate;
 use wb_command_edits::{EditedModel, edit_named, edited};
 use wb_diagram::Action;
 use wb_marks::Marks;
-use wb_model::{Edit, ModelRefusal};
+use wb_model::{Edit, Model, ModelRefusal};
 
 impl<E: Evaluator> Session<E> {
     /// The edit that an action asks for, on a copy.
@@ -38,6 +39,7 @@ impl<E: Evaluator> Session<E> {
         ensures given { Gives tried_of (edited self.now edit) result }
         ensures goes_on { IfOk result (GoesOn self.now) }
     {
+        metamodel_is_sound(&self.model);
         let marks = self.marks.copy(alloc)?;
         match edited(alloc, &self.model, edit) {
             Ok(made) => Ok(forward(made, marks)),
@@ -53,6 +55,13 @@ impl<E: Evaluator> Session<E> {
         let marks = self.marks.copy(alloc)?;
         self.remarked(alloc, marks)
     }
+}
+
+// The metamodel of a model is well formed.
+fn metamodel_is_sound(model: &Model)
+    ensures { WellFormed model.now.metamodel }
+{
+    model.metamodel().well_formed();
 }
 
 // An edited model under these marks, a step further.

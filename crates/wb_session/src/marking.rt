@@ -2,7 +2,8 @@ ghost use Rattle.std.specs.Prelude.{◌≡◌, false, IfOk};
 ghost use Rattle.std.specs.Option.{option_map_or};
 ghost use Rattle.wb_diagram.specs.declared.keys.AnyKey.TheVariants.{Node as NodeKey};
 ghost use Rattle.wb_spec_check.specs.Units.{mapping_of_key};
-ghost use Rattle.wb_answers.specs.SameKeys.{among};
+ghost use Rattle.std.specs.List.{list_any};
+ghost use Rattle.wb_answers.specs.SameKeys.{among, same_edge};
 ghost use Rattle.wb_marks.specs.Marks.{is_declared as is_of};
 ghost use Rattle.wb_targets.specs.Targets.{is_unsynchronised};
 ghost use Rattle.wb_session.specs.Answering.{Gives};
@@ -168,7 +169,7 @@ fn is_among(nodes: &[Key], edges: &[EdgeKey], key: &AnyKey) -> bool
 {
     match key {
         AnyKey::Node(key) => is_node(nodes, key),
-        AnyKey::Edge(key) => edges.iter().any(|edge| key == edge),
+        AnyKey::Edge(key) => is_edge(edges, key),
     }
 }
 
@@ -193,4 +194,11 @@ fn is_by_hand(spec: &CheckedViewpoint, key: &AnyKey) -> bool
         Some(mapping) => is_unsynchronised(spec, mapping),
         None => false,
     }
+}
+
+// Is the key one of these edges'?
+fn is_edge(edges: &[EdgeKey], key: &EdgeKey) -> bool
+    ensures { result ≡ list_any (same_edge key.now) edges.now }
+{
+    edges.iter().any(|edge| key == edge)
 }

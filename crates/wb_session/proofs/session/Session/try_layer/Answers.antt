@@ -7,4 +7,4 @@ pub remarked-requires : goal.remarked-requires
 remarked-requires g c =
     let i = c.self.inside in
     subst (λ (s : State). AreLawful s.spec c.in_ok-marks.marks) c.self.view_is
-    (subst (AreLawful i.spec) (sym c.in_ok-marks.ensures) (layer_lawful i.spec i.marks c.self.invariant.good.body.lawful c.some-number.number c.args.active))
+    (subst (AreLawful i.spec) (sym c.in_ok-marks.ensures) (layer_lawful i.spec i.marks c.self.invariant.good.body.lawful c.in-Some.number c.args.active))
