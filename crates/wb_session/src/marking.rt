@@ -71,13 +71,7 @@ impl<E: Evaluator> Session<E> {
         }
     }
 
-    fn move_node(
-        &self,
-        alloc: Global,
-        key: &Key,
-        x: i64,
-        y: i64,
-    ) -> Result<TriedState, Refusal>
+    fn move_node(&self, alloc: Global, key: &Key, x: i64, y: i64) -> Result<TriedState, Refusal>
         ensures given { Gives tried_of (moved_node self.now key.now x y) result }
         ensures goes_on { IfOk result (GoesOn self.now) }
     {

@@ -38,7 +38,12 @@ impl<E: Evaluator> Session<E> {
             return Err(Refusal::UnknownObject);
         }
         let path = self.path_of(parent)?;
-        self.show_by(alloc, path, mapping_named(&self.spec, mapping.as_str()), object)
+        self.show_by(
+            alloc,
+            path,
+            mapping_named(&self.spec, mapping.as_str()),
+            object,
+        )
     }
 
     /// The path to where something is shown.
@@ -120,12 +125,7 @@ impl<E: Evaluator> Session<E> {
 }
 
 /// The key of an object of a mapping under a path.
-fn child(
-    alloc: Global,
-    path: &[Pair],
-    mapping: u32,
-    object: ObjectId,
-) -> Result<Key, AllocError>
+fn child(alloc: Global, path: &[Pair], mapping: u32, object: ObjectId) -> Result<Key, AllocError>
     ensures { IfOk result (λ key. key ≡ child path.now mapping object) }
 {
     let mut pairs = Vec::from_slice(alloc, path)?;

@@ -59,8 +59,8 @@ accept-requires-clause-good g c =
     let opened = c.in_ok-settled.ensures.opened in
     let here = subject i.spec t.model i.root t.marks.shown in
     let marks_is : left.marks ≡ settled (declared_nodes gives here) (declared_edges gives here) t.marks =
-        c.in_ok-settled.ensures.settled
-        ∙ (ap (λ (ns : List Key). settled ns left.diagram.edges t.marks) opened.nodes ∙ ap (λ (es : List EdgeKey). settled (declared_nodes gives here) es t.marks) opened.edges)
+    c.in_ok-settled.ensures.settled
+    ∙ (ap (λ (ns : List Key). settled ns left.diagram.edges t.marks) opened.nodes ∙ ap (λ (es : List EdgeKey). settled (declared_nodes gives here) es t.marks) opened.edges)
     in
     let goes : GoesOn (state_of i.spec i.root i.model i.marks i.revision i.history) t = subst (λ (z : State). GoesOn z t) (sym c.self.view_is) c.in_ok-tried.ensures.goes_on in
     let there = it_stands gives i.spec i.root (tried_of t) c.in_ok-settled.ensures.given in
@@ -78,8 +78,8 @@ accept-requires-clause-opened g c =
     let opened = c.in_ok-settled.ensures.opened in
     let here = subject i.spec t.model i.root t.marks.shown in
     let marks_is : left.marks ≡ settled (declared_nodes gives here) (declared_edges gives here) t.marks =
-        c.in_ok-settled.ensures.settled
-        ∙ (ap (λ (ns : List Key). settled ns left.diagram.edges t.marks) opened.nodes ∙ ap (λ (es : List EdgeKey). settled (declared_nodes gives here) es t.marks) opened.edges)
+    c.in_ok-settled.ensures.settled
+    ∙ (ap (λ (ns : List Key). settled ns left.diagram.edges t.marks) opened.nodes ∙ ap (λ (es : List EdgeKey). settled (declared_nodes gives here) es t.marks) opened.edges)
     in
     subst (λ (z : State). IsOpened gives (subject z.spec t.model z.root left.marks.shown) left.diagram) c.self.view_is
     (subst (λ (m : Marks). IsOpened gives (subject i.spec t.model i.root m.shown) left.diagram) (sym marks_is)
@@ -97,13 +97,14 @@ returns g c =
     let opened = c.in_ok-settled.ensures.opened in
     let here = subject i.spec t.model i.root t.marks.shown in
     let marks_is : left.marks ≡ settled (declared_nodes gives here) (declared_edges gives here) t.marks =
-        c.in_ok-settled.ensures.settled
-        ∙ (ap (λ (ns : List Key). settled ns left.diagram.edges t.marks) opened.nodes ∙ ap (λ (es : List EdgeKey). settled (declared_nodes gives here) es t.marks) opened.edges)
+    c.in_ok-settled.ensures.settled
+    ∙ (ap (λ (ns : List Key). settled ns left.diagram.edges t.marks) opened.nodes ∙ ap (λ (es : List EdgeKey). settled (declared_nodes gives here) es t.marks) opened.edges)
     in
     let s = c.args.self.now in
     let there = subst (λ (z : State). stands gives z.spec z.root (tried_of t) ≡ Ok tt) c.self.view_is c.in_ok-settled.ensures.given in
     let body_is = subst (λ (z : State). body t.model left.marks ≡ settled_body gives (subject_at z.spec z.root t.model.next (tried_of t).body) (tried_of t).body) c.self.view_is
-        (ap (λ (m : Marks). body t.model m) marks_is) in
-    (went gives s c.args.command.now (tried_of t) (sym c.in_ok-current.ensures) c.in_ok-tried.ensures.given there
-    ∙ ap (λ (z : State). let x : Result Stepped Refusal = Ok (record { state = z; created = t.created }) in x) (accepts gives s t left.marks c.accept.new.self body_is c.accept.ensures),
-    ap (λ (z : State). z.revision + 1) c.self.view_is ∙ sym (ap (λ (z : State). z.revision) c.accept.ensures))
+    (ap (λ (m : Marks). body t.model m) marks_is) in (
+      went gives s c.args.command.now (tried_of t) (sym c.in_ok-current.ensures) c.in_ok-tried.ensures.given there
+          ∙ ap (λ (z : State). let x : Result Stepped Refusal = Ok (record { state = z; created = t.created }) in x) (accepts gives s t left.marks c.accept.new.self body_is c.accept.ensures),
+      ap (λ (z : State). z.revision + 1) c.self.view_is ∙ sym (ap (λ (z : State). z.revision) c.accept.ensures),
+    )

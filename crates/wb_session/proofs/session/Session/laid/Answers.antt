@@ -29,8 +29,8 @@ returns-clause-lawful g c =
     let i = c.self.inside in
     let keys = c.as_slice.ensures ∙ c.in_ok-keys.ensures in
     let lawful : AreLawful i.spec (arranged c.as_slice.result.now i.marks) =
-        arranged_lawful i.spec i.marks c.self.invariant.good.body.lawful c.as_slice.result.now
-        (subst (λ (ks : List Key). AllByRecursion (λ (k : Key). is_placeable i.spec k ≡ true) ks) (sym keys) (all_placeable i.spec c.nodes.result.now))
+    arranged_lawful i.spec i.marks c.self.invariant.good.body.lawful c.as_slice.result.now
+    (subst (λ (ks : List Key). AllByRecursion (λ (k : Key). is_placeable i.spec k ≡ true) ks) (sym keys) (all_placeable i.spec c.nodes.result.now))
     in
     IfOk-weaker c.arranged.result (λ (m : Marks). m ≡ arranged c.as_slice.result.now i.marks) (AreLawful c.args.self.now.spec)
     (λ m is. subst (λ (s : State). AreLawful s.spec m) c.self.view_is (subst (AreLawful i.spec) (sym is) lawful)) c.arranged.ensures

@@ -16,6 +16,6 @@ returns-in-Some-clause-given g c =
     let i = c.self.inside in
     let s = state_of i.spec i.root i.model i.marks i.revision i.history in
     let asked = asked_is_edited c.args.self.now c.args.action.now c.in-Some.edit
-        (subst (λ (z : State). option_transpose (edit_named (model_of z) c.args.action.now) ≡ Ok (Some c.in-Some.edit)) c.self.view_is (c.in_ok-edit.ensures.named ∙ ap (λ (o : Option Edit). let x : Result (Option Edit) NameRefusal = Ok o in x) c.in-Some.is))
+    (subst (λ (z : State). option_transpose (edit_named (model_of z) c.args.action.now) ≡ Ok (Some c.in-Some.edit)) c.self.view_is (c.in_ok-edit.ensures.named ∙ ap (λ (o : Option Edit). let x : Result (Option Edit) NameRefusal = Ok o in x) c.in-Some.is))
     in
     subst (λ (given : Result Tried Refusal). Gives tried_of given c.edited.result) (sym asked) c.edited.ensures.given

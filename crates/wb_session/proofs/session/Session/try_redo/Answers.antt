@@ -14,7 +14,7 @@ pub returns-in_ok-restored-in-Some-clause-given : goal.returns-in_ok-restored-in
 returns-in_ok-restored-in-Some-clause-given g c =
     let i = c.self.inside in
     let is : c.in_ok-restored-in-Some.field-0 ≡ restored_state c.in-Some.entry.now i.model.next turns.Again =
-        c.in_ok-restored-in-Some.ensures ∙ ap (λ (n : ℕ). restored_state c.in-Some.entry.now n turns.Again) c.next.ensures in
+    c.in_ok-restored-in-Some.ensures ∙ ap (λ (n : ℕ). restored_state c.in-Some.entry.now n turns.Again) c.next.ensures in
     subst (λ (z : State). tried g.E.Evaluator.outcome_by z Redo ≡ Ok (tried_of c.in_ok-restored-in-Some.field-0)) c.self.view_is
     (subst (λ (t : TriedState). let answer : Result Tried Refusal = Ok (tried_of t) in tried g.E.Evaluator.outcome_by (state_of i.spec i.root i.model i.marks i.revision i.history) Redo ≡ answer) (sym is)
     (redoes g.E.Evaluator.outcome_by i.spec i.root i.model i.marks i.revision i.history c.in-Some.entry.now (sym c.in-Some.ensures)))
@@ -23,7 +23,7 @@ pub returns-in_ok-restored-in-Some-clause-goes_on : goal.returns-in_ok-restored-
 returns-in_ok-restored-in-Some-clause-goes_on g c =
     let i = c.self.inside in
     let is : c.in_ok-restored-in-Some.field-0 ≡ restored_state c.in-Some.entry.now i.model.next turns.Again =
-        c.in_ok-restored-in-Some.ensures ∙ ap (λ (n : ℕ). restored_state c.in-Some.entry.now n turns.Again) c.next.ensures in
+    c.in_ok-restored-in-Some.ensures ∙ ap (λ (n : ℕ). restored_state c.in-Some.entry.now n turns.Again) c.next.ensures in
     subst (λ (z : State). GoesOn z c.in_ok-restored-in-Some.field-0) c.self.view_is
     (subst (GoesOn (state_of i.spec i.root i.model i.marks i.revision i.history)) (sym is)
     (redo_goes_on g.E.Evaluator.outcome_by i.spec i.root i.model i.marks i.revision i.history c.in-Some.entry.now c.self.invariant.good (sym c.in-Some.ensures)))
