@@ -1,5 +1,11 @@
 pub mod Alike
+pub mod Children
 pub mod Keys
 pub mod Lists
 pub mod MarkLaws
+pub mod Marking
 pub mod NextLaws
+pub mod OneKey
+pub mod Paths
+pub mod Recorded
+pub mod Tests

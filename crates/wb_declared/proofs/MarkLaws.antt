@@ -17,7 +17,7 @@ use Rattle.wb_edges.specs.Edges.{edge_units, edges, scene_of as among_nodes}
 use Rattle.wb_refresh.specs.Diagrams.{edges_of, units_of}
 use Rattle.wb_refresh.specs.Outcomes.{Gives, told}
 use Rattle.wb_refresh.specs.Subjects.{Setting, subject_in}
-use Rattle.wb_declared.specs.Declared.{DeclaresAlike, declared_nodes}
+use Rattle.wb_declared.specs.Declarations.{DeclaresAlike, declared_nodes}
 use Rattle.wb_declared.specs.Marks.{DropsUndeclared, settled}
 use Rattle.wb_declared.proofs.Alike.{alike_parts, units_alike}
 use Rattle.wb_declared.proofs.Keys.{all_among, among_filter}
@@ -119,7 +119,7 @@ pub dropped_are_not_seen : (gives : Gives) (s : Setting) (a b : List Key) → Dr
 dropped_are_not_seen gives s a b drops =
     let declared = declared_nodes gives (subject_in s a) in
     let stay : All (λ (key : Key). among a key ≡ true → among b key ≡ true) declared =
-        All-weaker (λ (key : Key). among declared key ≡ true) (λ (key : Key). among a key ≡ true → among b key ≡ true) drops.kept declared (all_among declared)
+    All-weaker (λ (key : Key). among declared key ≡ true) (λ (key : Key). among a key ≡ true → among b key ≡ true) drops.kept declared (all_among declared)
     in
     let same = same_nodes s.spec s.model (told gives s) a b drops.fewer stay in
     alike_parts gives (subject_in s a) (subject_in s b) same

@@ -1,3 +1,3 @@
 pub mod SameOnes
-pub mod Settling
+pub mod Settled
 pub mod Apart

@@ -12,7 +12,7 @@ use Rattle.wb_answers.specs.SameKeys.{among, same_any, same_edge, same_key}
 use Rattle.wb_answers.proofs.SameKeyLaws.{same_keys}
 use Rattle.wb_marks.specs.Marks.{is_declared}
 use Rattle.wb_marks.specs.Ones.{with_one, without_one, SameItems}
-use Rattle.wb_marks.specs.Declared.{Declare}
+use Rattle.wb_marks.specs.DeclaredKeys.{Declare}
 use Rattle.wb_marks.specs.declared.settling.Declared.{Declared}
 
 same_edges : (x y : EdgeKey) → edge.eq-value.it x y ≡ same_edge x y

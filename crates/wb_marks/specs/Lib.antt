@@ -1,3 +1,3 @@
-pub mod Declared
+pub mod DeclaredKeys
 pub mod Marks
 pub mod Ones

@@ -1,10 +1,10 @@
 -- Good bodies and good states.
-use Rattle.std.proofs.Common.{◌≡◌, ◌≤◌, ◌<◌, ◌^◌, ◌-◌, ◌+◌, ◌&&◌, ltb, ℕ, Bool, true, false, not, cond, List, [], ◌∷◌, ◌++◌, length, take, drop, Option, Some, None, Result, Ok, Err, refl, sym, ap, subst, ◌∙◌, arith}
+use Rattle.std.proofs.Common.{◌≡◌, ◌≤◌, ◌<◌, ◌^◌, ◌-◌, ◌+◌, ◌&&◌, ◌||◌, ltb, nat_lt, ℕ, suc, Bool, true, false, not, cond, List, [], ◌∷◌, ◌++◌, length, take, drop, filter, Option, Some, None, Result, Ok, Err, refl, sym, ap, subst, ◌∙◌, arith}
 use Rattle.std.specs.Prelude.{IsSome, IfSome, ⊤}
 use Rattle.std.specs.FinMap as positions
 use Rattle.std.specs.List.{AllByRecursion}
 use Rattle.std.specs.Option.{option_map_or}
-use Rattle.std.proofs.lemmas.Bool.{and_parts, ltb-true}
+use Rattle.std.proofs.lemmas.Bool.{and_parts, false≢true, ltb-true}
 use Rattle.std.proofs.lemmas.List.{length-append, length-drop, length-take}
 use Rattle.wb_base.proofs.ListLemmas.{filter-keeps}
 use Rattle.wb_store.specs.Contents.{Contents}
@@ -20,14 +20,15 @@ use Rattle.wb_answers.specs.SameKeys.{among}
 use Rattle.wb_layout.specs.Orders.{is_key}
 use Rattle.wb_layout.specs.Positions.{IsInRange, Position}
 use Rattle.wb_layout.proofs.Kept.{get-restricted}
-use Rattle.wb_refresh.specs.Openings.{is_too_large}
+use Rattle.wb_refresh.specs.Openings.{all_rows, is_too_large}
+use Rattle.wb_refresh.specs.Weights.{is_over}
 use Rattle.wb_refresh.specs.Outcomes.{Gives}
 use Rattle.wb_refresh.specs.Subjects.{Setting, Subject, subject, subject_in}
-use Rattle.wb_declared.specs.Declared.{DeclaresAlike, declared_edges, declared_nodes, renumbered}
+use Rattle.wb_declared.specs.Declarations.{DeclaresAlike, declared_edges, declared_nodes, renumbered}
 use Rattle.wb_declared.specs.Marks.{settled as settled_marks}
 use Rattle.wb_marks.specs.Marks.{settled}
 use Rattle.wb_marks.specs.declared.marks.Marks.{Marks}
-use Rattle.wb_targets.specs.Targets.{is_unsynchronised}
+use Rattle.wb_targets.specs.Targets.{is_placeable, is_unsynchronised, placeable}
 use Rattle.wb_session.specs.declared.refusal.Refusal.{Refusal}
 use Rattle.wb_session.specs.declared.refusal.Refusal.TheVariants as r
 use Rattle.wb_session.specs.declared.turn.Turn.{Turn}
@@ -44,7 +45,7 @@ use Rattle.wb_session.proofs.Settling.{becomes_settled, settled_alike, settling_
 
 some_of : {A : Type 0} (b : Bool) (o : Option A) → IsSome (cond b o None) → IsSome o
 some_of true o h = h
-some_of false o h = absurd h
+some_of false o h = absurd (false≢true h)
 
 pub lawful_settled : (spec : Specification) (ns : List Key) (es : List EdgeKey) (marks : Marks) → AreLawful spec marks → AreLawful spec (settled ns es marks)
 lawful_settled spec ns es marks h = record {
@@ -82,7 +83,7 @@ module _ (gives : Gives) where
     becomes_good spec root m marks valid checked conforms fits lawful in_range = record {
       checked = checked;
       valid = valid;
-      root = conforms;
+      rooted = conforms;
       fits = (settling_declares_alike gives undropped spec root m.next (body m marks)).too_large ∙ fits;
       settled = becomes_settled gives undropped spec root m.next (body m marks);
       lawful = lawful_settled spec (declared_nodes gives (subject spec m root marks.shown)) (declared_edges gives (subject spec m root marks.shown)) marks lawful;
@@ -98,7 +99,7 @@ module _ (gives : Gives) where
         record {
           checked = g.checked;
           valid = valid-later (model_at n b) k later few g.valid;
-          root = g.root;
+          rooted = g.rooted;
           fits = alike.too_large ∙ g.fits;
           settled = settled_alike gives (subject_at spec root n b) (subject_at spec root k b) b.marks alike g.settled;
           lawful = g.lawful;
@@ -139,3 +140,25 @@ module _ (gives : Gives) where
         together = omega (arith, length-take (length s.future - 1) s.future, length-append s.past (s.body ∷ []), g.together, c);
         revision = risen;
       }
+
+-- a diagram that is not too large has few elements
+few_by : (a b : ℕ) (over : Bool) → (over || nat_lt 100000 (a + b)) ≡ false → a ≤ 100000
+few_by a b true e = absurd cc
+few_by a b false e = grind arith
+
+pub few_declared : (gives : Gives) (s : Subject) → is_too_large gives s ≡ false → length (declared_nodes gives s) ≤ 100000
+few_declared gives s e = few_by (length (declared_nodes gives s)) (length (declared_edges gives s)) (is_over (all_rows gives s)) e
+
+one_of : {A : Type 0} (x : A) (less more : List A) (b : Bool) → length less ≤ length more → length (cond b (x ∷ less) less) ≤ suc (length more)
+one_of x less more true h = omega (arith, h)
+one_of x less more false h = omega (arith, h)
+
+filter_length : {A : Type 0} (p : A → Bool) (xs : List A) → length (filter p xs) ≤ length xs
+filter_length p [] = omega arith
+filter_length p (x ∷ xs) = one_of x (filter p xs) xs (p x) (filter_length p xs)
+
+pub few_placeable : (gives : Gives) (s : Subject) (spec : Specification) → is_too_large gives s ≡ false → length (placeable spec (declared_nodes gives s)) ≤ 100000
+few_placeable gives s spec e =
+    let few = few_declared gives s e in
+    let less = filter_length (is_placeable spec) (declared_nodes gives s) in
+    omega (arith, few, less)

@@ -1,5 +1,5 @@
 -- Lawful marks stay lawful.
-use Rattle.std.proofs.Common.{◌≡◌, ◌||◌, ℕ, Bool, true, false, cond, List, [], ◌∷◌, ◌++◌, filter, Option, Some, None, refl, sym, ap, subst}
+use Rattle.std.proofs.Common.{◌≡◌, ◌||◌, ℕ, Bool, true, false, cond, List, [], ◌∷◌, ◌++◌, filter, Option, Some, None, refl, sym, ap, subst, ◌∙◌, option_map}
 use Rattle.std.specs.Prelude.{IsSome, not}
 use Rattle.std.specs.FinMap.{get, get-insert}
 use Rattle.std.specs.List.{AllByRecursion, list_any}
@@ -24,7 +24,9 @@ use Rattle.wb_marks.specs.declared.marks.Marks.{Marks}
 use Rattle.wb_marks.proofs.Apart.{arranged_apart, filter_apart, hidden_apart, layer_apart, placed_apart, revealed_apart, shown_apart, unshown_apart}
 use Rattle.wb_targets.specs.Targets.{is_placeable, is_unsynchronised, placeable}
 use Rattle.wb_session.specs.States.{AreLawful}
-use Rattle.wb_session.proofs.Lists.{all_append, all_kept}
+use Rattle.wb_diagram.specs.declared.keys.Pair.{Pair}
+use Rattle.wb_nodes.specs.Nodes.{child, pair_of}
+use Rattle.wb_session.proofs.Lists.{all_append, all_kept, last_of_more}
 
 -- ---- keys
 
@@ -96,3 +98,10 @@ module _ (spec : Specification) (m : Marks) (h : AreLawful spec m) where
 -- those that can be placed can be placed
 pub all_placeable : (spec : Specification) (ks : List Key) → AllByRecursion (λ (k : Key). is_placeable spec k ≡ true) (placeable spec ks)
 all_placeable spec ks = all_kept (is_placeable spec) ks
+
+-- the mapping of a candidate's key is that of its last pair
+pub by_hand_child : (spec : Specification) (path : List Pair) (n o : ℕ) (key : Key) → key ≡ child path n o → is_unsynchronised spec n ≡ true
+    → option_map_or (is_unsynchronised spec) (mapping_of_key (Node key)) false ≡ true
+by_hand_child spec path n o key is h =
+    ap (λ (k : Key). option_map_or (is_unsynchronised spec) (mapping_of_key (Node k)) false) is
+    ∙ (ap (λ (found : Option Pair). option_map_or (is_unsynchronised spec) (option_map (λ (p : Pair). p.mapping) found) false) (last_of_more path (pair_of n o)) ∙ h)

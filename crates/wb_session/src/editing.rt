@@ -3,7 +3,10 @@ ghost use Rattle.wb_session.specs.Answering.{Gives};
 ghost use Rattle.wb_session.specs.States.{model_of};
 ghost use Rattle.wb_session.specs.Tries.{asked_edit, edited, marked};
 ghost use Rattle.wb_session.specs.invariants.Keeping.{GoesOn, tried_of};
+ghost use Rattle.wb_metamodel.specs.WellFormed.{WellFormed};
 ghost use Rattle.wb_model.specs.GivenEdits.{EditIsKnown};
+ghost use Rattle.wb_session.specs.Answering.{of_edit};
+ghost use Rattle.wb_session.specs.declared.turn.Turn.TheVariants.{Forward as Onward};
 
 use crate::entries::TriedState;
 use crate::refusal::Refusal;
@@ -12,9 +15,10 @@ use crate::turn::Turn;
 use std::alloc::Global;
 use wb_aql_eval::Evaluator;
 use wb_base::Duplicate;
-use wb_command_edits::{edit_named, edited};
+use wb_command_edits::{EditedModel, edit_named, edited};
 use wb_diagram::Action;
-use wb_model::{Edit, ModelRefusal};
+use wb_marks::Marks;
+use wb_model::{Edit, Model, ModelRefusal};
 
 impl<E: Evaluator> Session<E> {
     /// The edit that an action asks for, on a copy.
@@ -35,16 +39,11 @@ impl<E: Evaluator> Session<E> {
         ensures given { Gives tried_of (edited self.now edit) result }
         ensures goes_on { IfOk result (GoesOn self.now) }
     {
+        metamodel_is_sound(&self.model);
         let marks = self.marks.copy(alloc)?;
         match edited(alloc, &self.model, edit) {
-            Ok(made) => Ok(TriedState {
-                model: made.model,
-                marks,
-                created: made.made,
-                turn: Turn::Forward,
-            }),
-            Err(ModelRefusal::NoMemory) => Err(Refusal::NoMemory),
-            Err(refusal) => Err(Refusal::Edit(refusal)),
+            Ok(made) => Ok(forward(made, marks)),
+            Err(refusal) => Err(edit_refusal(refusal)),
         }
     }
 
@@ -55,5 +54,34 @@ impl<E: Evaluator> Session<E> {
     {
         let marks = self.marks.copy(alloc)?;
         self.remarked(alloc, marks)
+    }
+}
+
+// The metamodel of a model is well formed.
+fn metamodel_is_sound(model: &Model)
+    ensures { WellFormed model.now.metamodel }
+{
+    model.metamodel().well_formed();
+}
+
+// An edited model under these marks, a step further.
+fn forward(made: EditedModel, marks: Marks) -> TriedState
+    ensures { result ≡ record { model = made.model; marks = marks; created = made.made; turn = Onward } }
+{
+    TriedState {
+        model: made.model,
+        marks,
+        created: made.made,
+        turn: Turn::Forward,
+    }
+}
+
+// The refusal of an edit, as that of a command.
+fn edit_refusal(refusal: ModelRefusal) -> Refusal
+    ensures { result ≡ of_edit refusal }
+{
+    match refusal {
+        ModelRefusal::NoMemory => Refusal::NoMemory,
+        _ => Refusal::Edit(refusal),
     }
 }

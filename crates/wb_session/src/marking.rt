@@ -2,6 +2,8 @@ ghost use Rattle.std.specs.Prelude.{◌≡◌, false, IfOk};
 ghost use Rattle.std.specs.Option.{option_map_or};
 ghost use Rattle.wb_diagram.specs.declared.keys.AnyKey.TheVariants.{Node as NodeKey};
 ghost use Rattle.wb_spec_check.specs.Units.{mapping_of_key};
+ghost use Rattle.std.specs.List.{list_any};
+ghost use Rattle.wb_answers.specs.SameKeys.{among, same_edge};
 ghost use Rattle.wb_marks.specs.Marks.{is_declared as is_of};
 ghost use Rattle.wb_targets.specs.Targets.{is_unsynchronised};
 ghost use Rattle.wb_session.specs.Answering.{Gives};
@@ -69,13 +71,7 @@ impl<E: Evaluator> Session<E> {
         }
     }
 
-    fn move_node(
-        &self,
-        alloc: Global,
-        key: &Key,
-        x: i64,
-        y: i64,
-    ) -> Result<TriedState, Refusal>
+    fn move_node(&self, alloc: Global, key: &Key, x: i64, y: i64) -> Result<TriedState, Refusal>
         ensures given { Gives tried_of (moved_node self.now key.now x y) result }
         ensures goes_on { IfOk result (GoesOn self.now) }
     {
@@ -166,9 +162,16 @@ fn is_among(nodes: &[Key], edges: &[EdgeKey], key: &AnyKey) -> bool
     ensures { result ≡ is_of nodes.now edges.now key.now }
 {
     match key {
-        AnyKey::Node(key) => nodes.contains(key),
-        AnyKey::Edge(key) => edges.contains(key),
+        AnyKey::Node(key) => is_node(nodes, key),
+        AnyKey::Edge(key) => is_edge(edges, key),
     }
+}
+
+/// Is the key one of these elements'?
+pub(crate) fn is_node(nodes: &[Key], key: &Key) -> bool
+    ensures { result ≡ among nodes.now key.now }
+{
+    nodes.iter().any(|node| key == node)
 }
 
 fn is_near(x: i64) -> bool
@@ -185,4 +188,11 @@ fn is_by_hand(spec: &CheckedViewpoint, key: &AnyKey) -> bool
         Some(mapping) => is_unsynchronised(spec, mapping),
         None => false,
     }
+}
+
+// Is the key one of these edges'?
+fn is_edge(edges: &[EdgeKey], key: &EdgeKey) -> bool
+    ensures { result ≡ list_any (same_edge key.now) edges.now }
+{
+    edges.iter().any(|edge| key == edge)
 }

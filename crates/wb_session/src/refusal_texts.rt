@@ -8,11 +8,7 @@ use wb_model::ModelRefusal;
 
 /// The JSON text of a refusal at this revision.
 #[tactic(auto, unfolding(crate::specs::RefusalTexts::refusal_text))]
-pub fn write_refusal(
-    alloc: Global,
-    refusal: Refusal,
-    revision: u64,
-) -> Result<Text, AllocError>
+pub fn write_refusal(alloc: Global, refusal: Refusal, revision: u64) -> Result<Text, AllocError>
     ensures { IfOk result (λ text. text ≡ refusal_text refusal revision) }
 {
     let mut text = String::from_str(alloc, "{\"refusal\":\"")?;

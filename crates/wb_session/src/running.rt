@@ -27,6 +27,7 @@ impl<E: Evaluator> Session<E> {
             created: tried.created,
         };
         tried.model.valid();
+        settled.marks.layout.keeps_in_range();
         self.accept(tried.model, tried.turn, settled);
         Ok(accepted)
     }

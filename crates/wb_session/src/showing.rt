@@ -1,6 +1,6 @@
-ghost use Rattle.std.specs.Prelude.{◌≡◌, true, IfOk, Ok, Err, Result, map};
+ghost use Rattle.std.specs.Prelude.{◌≡◌, true, IfOk};
 ghost use Rattle.wb_answers.specs.SameKeys.{among};
-ghost use Rattle.wb_declared.specs.Declared.{declared_nodes};
+ghost use Rattle.wb_declared.specs.Declarations.{declared_nodes};
 ghost use Rattle.wb_diagram.specs.declared.commands.Action.TheVariants as a;
 ghost use Rattle.wb_nodes.specs.Nodes.{child};
 ghost use Rattle.wb_targets.specs.Targets.{is_unsynchronised};
@@ -10,6 +10,7 @@ ghost use Rattle.wb_session.specs.Tries.{node_path, path_of, shown, shown_by, sh
 ghost use Rattle.wb_session.specs.invariants.Keeping.{GoesOn, tried_of};
 
 use crate::entries::TriedState;
+use crate::marking::is_node;
 use crate::refusal::Refusal;
 use crate::session::Session;
 use std::alloc::{AllocError, Global};
@@ -37,7 +38,12 @@ impl<E: Evaluator> Session<E> {
             return Err(Refusal::UnknownObject);
         }
         let path = self.path_of(parent)?;
-        self.show_by(alloc, path, mapping_named(&self.spec, mapping.as_str()), object)
+        self.show_by(
+            alloc,
+            path,
+            mapping_named(&self.spec, mapping.as_str()),
+            object,
+        )
     }
 
     /// The path to where something is shown.
@@ -54,7 +60,7 @@ impl<E: Evaluator> Session<E> {
     fn node_path<'a>(&self, key: &'a Key) -> Result<&'a [Pair], Refusal>
         ensures { Gives (λ path. path.now) (node_path E.outcome_by self.now key.now) result }
     {
-        if self.nodes().contains(key) {
+        if is_node(self.nodes(), key) {
             Ok(key.pairs.as_slice())
         } else {
             Err(Refusal::UnknownElement)
@@ -101,15 +107,25 @@ impl<E: Evaluator> Session<E> {
         let marks = self.marks.shown_too(alloc, key)?;
         self.remarked(alloc, marks)
     }
+
+    /// Would the element be declared if it had the mark? Nothing is evaluated.
+    fn would_be_declared(&self, alloc: Global, key: &Key) -> Result<bool, AllocError>
+        ensures { IfOk result (λ would. would ≡ would_be_declared E.outcome_by self.now key.now) }
+    {
+        would_be_declared(
+            alloc,
+            &self.spec,
+            &self.model,
+            self.root,
+            self.marks.shown.as_slice(),
+            &self.diagram,
+            key,
+        )
+    }
 }
 
 /// The key of an object of a mapping under a path.
-fn child(
-    alloc: Global,
-    path: &[Pair],
-    mapping: u32,
-    object: ObjectId,
-) -> Result<Key, AllocError>
+fn child(alloc: Global, path: &[Pair], mapping: u32, object: ObjectId) -> Result<Key, AllocError>
     ensures { IfOk result (λ key. key ≡ child path.now mapping object) }
 {
     let mut pairs = Vec::from_slice(alloc, path)?;

@@ -5,7 +5,7 @@ use Rattle.std.specs.Coded.{Coded, code_by, coded×, coded_list, coded_ℕ}
 use Rattle.circular_buffer.specs.Buffer.{keep_last}
 use Rattle.wb_store.specs.Contents.{Contents}
 use Rattle.wb_validity.specs.Valid.{conforms_to}
-use Rattle.wb_spec_check.specs.Checked.{Specification}
+use Rattle.wb_spec_check.specs.Checked.{IsCheckedBy, Specification}
 use Rattle.wb_model.specs.Edits.{is_live}
 use Rattle.wb_history.specs.Stacks.{Stacks, all_but_newest, stacks}
 use Rattle.wb_refresh.specs.Openings.{IsOpened, Kept}
@@ -71,10 +71,10 @@ CanTurn turn.Forward s = Unit {0}
 CanTurn turn.Back s = 0 < length s.past
 CanTurn turn.Again s = 0 < length s.future
 
--- it goes on from this state: its numbers are not less, its model is of the same metamodel, a root element that is live has its class, and its marks are lawful
+-- it goes on from this state: its numbers are not less, the viewpoint was checked against its metamodel, a root element that is live has its class, and its marks are lawful
 pub record GoesOn (s : State) (a : TriedState) : Type 0 where
   pub later : s.next ≤ a.model.next
-  pub over : a.model.metamodel ≡ s.body.model.metamodel
+  pub checked : IsCheckedBy a.model.metamodel s.spec
   pub root : is_live a.model s.root ≡ true → conforms_to a.model s.spec.1.domain s.root ≡ true
   pub lawful : AreLawful s.spec a.marks
   pub possible : CanTurn a.turn s

@@ -1,5 +1,5 @@
 -- Marks that are settled.
-use Rattle.std.proofs.Common.{◌≡◌, Bool, true, false, ◌&&◌, cond, is_some, List, [], ◌∷◌, filter, Option, Some, None, refl, sym, ap, ◌∙◌, subst}
+use Rattle.std.proofs.Common.{◌≡◌, Bool, true, false, cond, List, [], ◌∷◌, filter, Option, Some, None, refl, sym, ap, ◌∙◌, subst}
 use Rattle.std.proofs.lemmas.Bool.{false≢true, and_parts, and_from}
 use Rattle.std.specs.Cmp.{eq_by_cmp_equiv}
 use Rattle.std.specs.FinMap.{get}
@@ -8,7 +8,6 @@ use Rattle.std.specs.Ordering.{is_eq}
 use Rattle.std.specs.Prelude.{IsSome}
 use Rattle.std.specs.declared.cmp.Ordering.{Ordering}
 use Rattle.std.specs.declared.cmp.Ordering.TheVariants as c
-use Rattle.wb_diagram.specs.declared.keys.AnyKey.{AnyKey}
 use Rattle.wb_diagram.specs.declared.keys.EdgeKey.{EdgeKey}
 use Rattle.wb_diagram.specs.declared.keys.Key.{Key}
 use Rattle.wb_layout.specs.Orders as orders
@@ -70,12 +69,9 @@ restricted_among m nodes key h =
     there (among nodes key) (get m key) (subst (λ (o : Option Position). IsSome o) (get-restricted m nodes key ∙ ap (λ b. cond b (get m key) None) (is_key_among nodes key)) h)
 
 stays_at : (b : Bool) (at : Option Position) → (IsSome at → b ≡ true) → at ≡ cond b at None
-stays_at b None h = none b
-  where
-    none : (b : Bool) → None {T = Position} ≡ cond b None None
-    none true = refl
-    none false = refl
-stays_at b (Some at) h = sym (ap (λ e. cond e (Some at) None) (h refl))
+stays_at true at h = refl
+stays_at false None h = refl
+stays_at false (Some at) h = absurd (false≢true (h refl))
 
 pub restricted_all : (m : Positions) (nodes : List Key) → ((key : Key) → IsSome (get m key) → among nodes key ≡ true) → restricted m nodes ≡ m
 restricted_all m nodes all =
