@@ -34,7 +34,7 @@ module _ (spec : Specification) (m : Contents) where
   unfolding picture_from opening
   draws name s e = drawn_from name (root_element m spec.1.domain) s e
 
-  rootless_by : (root : ℕ) (large : Bool) → cond large (Err TooLarge) (let x : Result State OpenRefusal = Ok (opened_state spec m root) in x) ≡ Err NoRoot → ⊥ {0}
+  rootless_by : (root : ℕ) (large : Bool) → cond large (Err TooLarge) (let x : Result State OpenRefusal = Ok (opened_state spec m root) in x) ≡ Err NoRoot → ⊥
   rootless_by root true e = cc
   rootless_by root false e = cc
 

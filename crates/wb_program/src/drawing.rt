@@ -51,10 +51,7 @@ fn picture_from<L>(
 }
 
 /// What is served of a session, and LF.
-fn picture_answer<L>(
-    alloc: Global,
-    session: &Session<Steps<L>>,
-) -> Result<Answer, AllocError>
+fn picture_answer<L>(alloc: Global, session: &Session<Steps<L>>) -> Result<Answer, AllocError>
     ensures { IfOk result (λ answer. answer ≡ picture_of session.now) }
 {
     let mut text = session.served(alloc)?.into_bytes();
