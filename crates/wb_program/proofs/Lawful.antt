@@ -27,7 +27,8 @@ use Rattle.wb_spec_check.specs.declared.parts.Parts.{Parts}
 use Rattle.wb_program.specs.Drawing.{drawn, is_too_large, picture_answer}
 use Rattle.wb_program.specs.Steps.{Went}
 use Rattle.wb_program.specs.Runs.{IsDecision, Settles}
-use Rattle.wb_program.specs.Opening.{metamodel_under, viewpoint_under, model_under, root_element, picture_from, checked_under, checking, drawing, task_course, course_for, course_of}
+use Rattle.wb_session.specs.Opening.{root_element}
+use Rattle.wb_program.specs.Opening.{metamodel_under, viewpoint_under, model_under, picture_from, checked_under, checking, drawing, task_course, course_for, course_of}
 use Rattle.wb_program.proofs.CausedAnswers.{AnyValue, AnswerCaused, causes_then, causes_taken, causes_or_refused, causes_or_else, not_built_caused, usage_caused, no_root_caused}
 use Rattle.wb_program.proofs.AskedNames.{turns_then}
 use Rattle.wb_program.proofs.Endings.{decided, decided_at_once}

@@ -8,8 +8,6 @@ pub mod Lawful
 pub mod Numerals
 pub mod OverFiles
 pub mod Problems
-pub mod RootSteps
-pub mod Shown
 pub mod StepLemmas
 pub mod Taken
 pub mod Texts

@@ -14,4 +14,3 @@ pub mod Steps
 pub mod Taking
 pub mod Tasks
 pub mod Words
-pub mod Written

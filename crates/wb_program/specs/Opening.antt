@@ -1,14 +1,14 @@
 -- The course of a run: the metamodel is taken, sized and read, then the viewpoint, then the model; then the root element is
 -- found, and the picture is drawn. The first failure ends it.
-use Rattle.std.specs.Prelude.{ℕ, List, Option, Some, None, find}
+use Rattle.std.specs.Prelude.{ℕ, List, Option, Some, None}
 use Rattle.wb_metamodel.specs.Metamodel.{Metamodel}
 use Rattle.wb_metamodel.specs.Checks.{metamodel}
 use Rattle.wb_store.specs.Contents.{Contents}
-use Rattle.wb_validity.specs.Valid.{conforms_to}
 use Rattle.wb_viewpoint.specs.Reading.{viewpoint}
 use Rattle.wb_viewpoint.specs.declared.content.Content.{Content}
 use Rattle.wb_spec_check.specs.Checked.{Specification, checked}
 use Rattle.wb_model_json.specs.ModelFile.{model}
+use Rattle.wb_session.specs.Opening.{root_element}
 use Rattle.wb_program.specs.declared.answer.Answer.{Answer}
 use Rattle.wb_program.specs.Words.{Sources, Task, check, draw, serve, big, task_of}
 use Rattle.wb_program.specs.Answers.{not_built, usage, no_root_element}
@@ -36,10 +36,6 @@ unfoldable pub model_under : Metamodel → List ℕ → Course Contents
 model_under mm name = taken name >>= (λ bytes. or_refused model_code_name name (model mm bytes))
 
 -- ---- the picture
-
--- the first root that conforms to a class
-abbrev pub root_element : Contents → ℕ → Option ℕ
-root_element m class = find (conforms_to m class) m.roots
 
 -- the picture from the root element of a model, which stands in the file of this name
 unfoldable pub picture_from : List ℕ → Specification → Contents → Course Answer

@@ -16,7 +16,6 @@ use Rattle.wb_diagram.specs.declared.units.Unit.{Unit as Place}
 use Rattle.wb_metamodel.specs.Metamodel.{Metamodel}
 use Rattle.wb_answers.specs.SameKeys.{among}
 use Rattle.wb_answers.specs.Seen.{Told}
-use Rattle.wb_aql_eval.specs.Outcomes.{outcome_of}
 use Rattle.wb_nodes.specs.Nodes.{Scene, nodes, node_units}
 use Rattle.wb_nodes.proofs.NodeLaws.{nodes_are_paths, nodes_have_mappings, node_units_name_paths, parents_are_nodes}
 use Rattle.wb_edges.specs.Edges.{scene_of as between}
@@ -33,7 +32,7 @@ use Rattle.wb_refresh.specs.Faults.{fault_name, fault_in, problems_of}
 use Rattle.wb_refresh.specs.Openings.{Kept, IsOpened, all_units}
 use Rattle.wb_refresh.specs.Outcomes.{Gives, row, told}
 use Rattle.wb_refresh.specs.Subjects.{Setting, Subject, scene}
-use Rattle.wb_program.specs.Written.{CanBeShown}
+use Rattle.wb_session.specs.Written.{CanBeShown}
 
 -- ---- keys
 
@@ -115,17 +114,18 @@ module _ (mm : Metamodel) (gives : Gives) (setting : Setting) where
 
 -- ---- the whole
 
-abbrev answers_of : Subject → Told
-answers_of s = told outcome_of s.setting
+module _ (gives : Gives) where
+  abbrev answers_of : Subject → Told
+  answers_of s = told gives s.setting
 
-pub can_be_shown : (s : Subject) (kept : Kept) → IsOpened outcome_of s kept → CanBeShown s.setting.spec kept
-can_be_shown s kept h = record {
-  nodes = subst (All IsPath) (sym h.nodes) (nodes_are_paths (scene s) (answers_of s));
-  edges = subst (All JoinsPaths) (sym h.edges) (edges_are_joined (scene s) (answers_of s));
-  mappings = subst (All (HasMapping s.setting.spec)) (sym keys) (keys_are_mapped (scene s) (answers_of s));
-  grounded = subst (λ (ks : List AnyKey). All (HasGround ks) ks) (sym keys) (keys_grounded (scene s) (answers_of s));
-  problems = subst (All (λ (problem : Problem). NamesPaths problem.at)) (sym h.problems) (problems_name_paths s.setting.model.metamodel outcome_of s.setting (all_units outcome_of s) (all_name_paths (scene s) (answers_of s)));
-}
-  where
-    keys : all_keys kept.nodes kept.edges ≡ keys_of (scene s) (answers_of s)
-    keys = ap (λ (ns : List Key). all_keys ns kept.edges) h.nodes ∙ ap (all_keys (nodes (scene s) (answers_of s))) h.edges
+  pub can_be_shown : (s : Subject) (kept : Kept) → IsOpened gives s kept → CanBeShown s.setting.spec kept
+  can_be_shown s kept h = record {
+    nodes = subst (All IsPath) (sym h.nodes) (nodes_are_paths (scene s) (answers_of s));
+    edges = subst (All JoinsPaths) (sym h.edges) (edges_are_joined (scene s) (answers_of s));
+    mappings = subst (All (HasMapping s.setting.spec)) (sym keys) (keys_are_mapped (scene s) (answers_of s));
+    grounded = subst (λ (ks : List AnyKey). All (HasGround ks) ks) (sym keys) (keys_grounded (scene s) (answers_of s));
+    problems = subst (All (λ (problem : Problem). NamesPaths problem.at)) (sym h.problems) (problems_name_paths s.setting.model.metamodel gives s.setting (all_units gives s) (all_name_paths (scene s) (answers_of s)));
+  }
+    where
+      keys : all_keys kept.nodes kept.edges ≡ keys_of (scene s) (answers_of s)
+      keys = ap (λ (ns : List Key). all_keys ns kept.edges) h.nodes ∙ ap (all_keys (nodes (scene s) (answers_of s))) h.edges

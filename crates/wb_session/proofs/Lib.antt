@@ -1,0 +1,15 @@
+pub mod Becoming
+pub mod Edited
+pub mod First
+pub mod Goods
+pub mod Histories
+pub mod Lawful
+pub mod Lists
+pub mod Opened
+pub mod Restored
+pub mod Rooted
+pub mod Settling
+pub mod Showable
+pub mod Stepping
+pub mod Taking
+pub mod Undoing
