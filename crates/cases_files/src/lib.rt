@@ -2,5 +2,7 @@
 #![tactic(auto)]
 
 mod models;
+mod told;
 
 pub use models::{file_in, model_in};
+pub use told::{needed_file, told_file};
