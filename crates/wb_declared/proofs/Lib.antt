@@ -1,0 +1,11 @@
+pub mod Alike
+pub mod Children
+pub mod Keys
+pub mod Lists
+pub mod MarkLaws
+pub mod Marking
+pub mod NextLaws
+pub mod Paths
+pub mod Recorded
+pub mod Standing
+pub mod Tests

@@ -1,0 +1,5 @@
+use Rattle.wb_declared.proofs.Standing.{marked_itself}
+use Rattle.wb_declared.proofs.laws.unsynchronised_elements_are_marked.Goals as goal
+
+pub returns : goal.returns
+returns g c = marked_itself g.E.Evaluator.outcome_by

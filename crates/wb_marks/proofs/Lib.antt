@@ -1,0 +1,3 @@
+pub mod SameOnes
+pub mod Settling
+pub mod Apart

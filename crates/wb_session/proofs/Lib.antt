@@ -1,0 +1,10 @@
+pub mod Becoming
+pub mod Goods
+pub mod Histories
+pub mod Lawful
+pub mod Lists
+pub mod Opened
+pub mod Settling
+pub mod Showable
+pub mod Taking
+pub mod Undoing

@@ -1,0 +1,10 @@
+pub mod Answering
+pub mod Laws
+pub mod Opening
+pub mod Pictures
+pub mod RefusalTexts
+pub mod States
+pub mod Steps
+pub mod Tries
+pub mod Written
+pub mod invariants

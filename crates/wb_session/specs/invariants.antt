@@ -1,0 +1,2 @@
+-- What the code keeps to while it works.
+pub mod Keeping
