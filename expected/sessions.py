@@ -14,15 +14,15 @@ import re
 import sys
 from typing import NamedTuple
 
+import commands
 import diagrams
 import evaluations
 import plain_files
 import plain_models
 from diagrams import DIAGRAM, Edge, View
-from plain_files import is_name, is_number
 from program import LONG, MADE, loaded
 
-LAST_REVISION, FARTHEST, MOST_STEPS, MOST_PAIRS = 9007199254740991, 1000000, 100, 32
+FARTHEST, MOST_STEPS = 1000000, 100
 
 
 class Refused(Exception):
@@ -93,13 +93,9 @@ def is_edge_mapping(mapping):
 
 # ---- keys
 
-NUMBER = "(?:0|[1-9][0-9]*)"
-PATH = f"{NUMBER}[.]{NUMBER}(?:-{NUMBER}[.]{NUMBER})*"
-
-
 def pair_in(text):
-    mapping, o = map(int, text.split("."))
-    return mapping, o
+    mapping, o = text.split(".")
+    return int(mapping), int(o)
 
 
 def path_in(text):
@@ -107,67 +103,9 @@ def path_in(text):
 
 
 def key_in(text):
-    """The key that a text spells, or none."""
-    parts = text.split(":")
-    if len(parts) not in (1, 3) or not all(re.fullmatch(PATH, part) for part in parts) or "-" in parts[0] and len(parts) == 3:
-        return None
-    if any(len(path_in(part)) > MOST_PAIRS or not all(is_number(n) for pair in path_in(part) for n in pair) for part in parts):
-        return None
-    return path_in(text) if len(parts) == 1 else Edge(*pair_in(parts[0]), path_in(parts[1]), path_in(parts[2]))
-
-
-# ---- the form of a command
-
-def is_integer(value):
-    return type(value) is int and -2 ** 63 <= value < 2 ** 63
-
-
-def is_text(value):
-    return type(value) is str
-
-
-def is_key(value):
-    return is_text(value) and key_in(value) is not None
-
-
-def is_value(value):
-    return is_integer(value) or type(value) in (bool, str) or type(value) is dict and set(value) == {"object"} and is_number(value["object"])
-
-
-def or_null(form):
-    return lambda value: value is None or form(value)
-
-
-ARGUMENTS = {"container": or_null(is_key), "source": is_key, "target": is_key, "element": is_key, "arg0": is_text, "to": or_null(is_key),
-             "end": lambda value: value in ("source", "target")}
-
-
-def are_arguments(value):
-    return type(value) is dict and all(name in ARGUMENTS and ARGUMENTS[name](argument) for name, argument in value.items())
-
-
-SLOT = {"object": is_number, "feature": is_name}
-FORMS = {
-    "create": {"class": is_name, "in": or_null(is_number), "feature": or_null(is_name)},
-    "set": {**SLOT, "value": is_value}, "add": {**SLOT, "value": is_value}, "take": {**SLOT, "value": is_value}, "unset": SLOT,
-    "move_to": {**SLOT, "in": is_number}, "remove": {"object": is_number}, "tool": {"tool": is_name, "arguments": are_arguments},
-    "move": {"key": is_key, "x": is_integer, "y": is_integer}, "arrange": {}, "undo": {}, "redo": {},
-    "show": {"parent": or_null(is_key), "mapping": is_name, "object": is_number},
-    "unshow": {"key": is_key}, "hide": {"key": is_key}, "reveal": {"key": is_key},
-    "layer": {"layer": is_name, "active": lambda value: type(value) is bool},
-    "filter": {"filter": is_name, "active": lambda value: type(value) is bool},
-}
-
-
-def is_command(c):
-    if type(c) is not dict or type(c.get("command")) is not str or c["command"] not in FORMS:
-        return False
-    form = FORMS[c["command"]]
-    if set(c) != {"command", "revision", *form} or type(c["revision"]) is not int or not 0 <= c["revision"] <= LAST_REVISION:
-        return False
-    if c["command"] == "create" and (c["in"] is None) != (c["feature"] is None):
-        return False
-    return all(is_of(c[name]) for name, is_of in form.items())
+    """The key that a text spells."""
+    own, *ends = text.split(":")
+    return Edge(*pair_in(own), *map(path_in, ends)) if ends else path_in(own)
 
 
 # ---- the refusals of a command before its state is tried, in their order; each holds of a viewpoint, a state, its diagram and a command
@@ -238,7 +176,7 @@ def is_no_candidate(v, s, d, c):
 
 REFUSALS = [
     ("stale", lambda v, s, d, c: c["revision"] != s.revision),
-    ("revisions_spent", lambda v, s, d, c: s.revision == LAST_REVISION),
+    ("revisions_spent", lambda v, s, d, c: s.revision == commands.LAST_REVISION),
     ("unknown_object", lambda v, s, d, c: any(o not in s.body.model.kinds for o in objects_named(c))),
     ("unknown_class", is_unknown_class),
     ("unknown_feature", is_unknown_feature),
@@ -380,7 +318,7 @@ class Session:
 
     def reply(self, c):
         """The status and the body of the answer to a command."""
-        if not is_command(c):
+        if commands.told(plain_models.written(c).encode()) == "bad body":
             return 400, {"refusal": "bad_body"}
         try:
             created = self.command(c)
