@@ -1,4 +1,4 @@
-//! The models in files, for the programs of cases.
+//! The files of cases and the models in files, for the programs of cases.
 #![tactic(auto)]
 
 mod models;
