@@ -51,7 +51,11 @@ fn push_answer(
 fn push_accepted(shown: &mut String, accepted: Accepted) -> Result<(), AllocError> {
     let revision = accepted.revision;
     match accepted.created {
-        Some(object) => write!(shown, "200 {{\"created\":{},\"revision\":{revision}}}\n", object.0),
+        Some(object) => write!(
+            shown,
+            "200 {{\"created\":{},\"revision\":{revision}}}\n",
+            object.0
+        ),
         None => write!(shown, "200 {{\"revision\":{revision}}}\n"),
     }
 }
