@@ -9,8 +9,8 @@ use Rattle.wb_diagram.specs.declared.keys.AnyKey.TheVariants.{Node, Edge}
 use Rattle.wb_diagram.specs.declared.keys.EdgeKey.{EdgeKey}
 use Rattle.wb_diagram.specs.declared.keys.Key.{Key}
 use Rattle.wb_layout.specs.Positions.{Position}
-use Rattle.wb_answers.specs.SameKeys.{same_any, same_key}
-use Rattle.wb_answers.proofs.SameKeyLaws.{edge_equiv, key_equiv}
+use Rattle.wb_marks.specs.SameKeys.{same_any, same_key}
+use Rattle.wb_marks.proofs.SameKeyLaws.{edge_equiv, key_equiv}
 use Rattle.wb_marks.specs.Marks.{AreDistinct, arranged, hidden_too, placed, revealed, settled, shown_too, switched, unmarked, unshown, with_filter, with_layer}
 use Rattle.wb_marks.specs.Ones.{with_one, without_one}
 use Rattle.wb_marks.specs.declared.marks.Marks.{Marks}

@@ -1,3 +1,4 @@
 pub mod SameOnes
-pub mod Settling
+pub mod Settled
 pub mod Apart
+pub mod SameKeyLaws

@@ -1,3 +1,4 @@
-pub mod Declared
+pub mod DeclaredKeys
 pub mod Marks
 pub mod Ones
+pub mod SameKeys

@@ -1,8 +1,8 @@
 ghost use Rattle.std.specs.Prelude.{◌≡◌, ℕ, List as Listed, IfOk, filter};
-ghost use Rattle.wb_answers.specs.SameKeys.{among};
+ghost use Rattle.wb_marks.specs.SameKeys.{among};
 ghost use Rattle.wb_diagram.specs.declared.keys.Key.{Key};
 ghost use Rattle.wb_diagram.specs.declared.keys.EdgeKey.{EdgeKey};
-ghost use Rattle.wb_marks.specs.Declared.{Declare, is_in_sets};
+ghost use Rattle.wb_marks.specs.DeclaredKeys.{Declare};
 ghost use Rattle.wb_marks.specs.Marks.{is_declared, settled};
 
 use crate::marks::Marks;
@@ -30,7 +30,7 @@ impl Marks {
     ) -> Result<Marks, AllocError>
         ensures { IfOk result (λ marks. marks ≡ settled nodes.now edges.now self.now) }
     {
-        let declared = declared(alloc, nodes, edges)?;
+        let declared = sets_of(alloc, nodes, edges)?;
         let mut marks = self.copy(alloc)?;
         marks.shown = kept_nodes(alloc, &declared, self.shown.as_slice())?;
         marks.hidden = kept_keys(alloc, &declared, self.hidden.as_slice())?;
@@ -42,7 +42,7 @@ impl Marks {
 }
 
 #[tactic(auto, using(crate::proofs::SameOnes::declared_by))]
-fn declared(alloc: Global, nodes: &[Key], edges: &[EdgeKey]) -> Result<Declared, AllocError>
+fn sets_of(alloc: Global, nodes: &[Key], edges: &[EdgeKey]) -> Result<Declared, AllocError>
     ensures { IfOk result (λ it. Declare nodes.now edges.now it) }
 {
     Ok(Declared {

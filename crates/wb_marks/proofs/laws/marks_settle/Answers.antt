@@ -1,4 +1,4 @@
-use Rattle.wb_marks.proofs.Settling.{settled_of, settled_stay, settled_once}
+use Rattle.wb_marks.proofs.Settled.{settled_of, settled_stay, settled_once}
 use Rattle.wb_marks.proofs.laws.marks_settle.Goals as goal
 
 pub returns-clause-settled : goal.returns-clause-settled

@@ -16,8 +16,8 @@ use Rattle.wb_layout.specs.Orders.{is_key, key_cmp}
 use Rattle.wb_layout.specs.Positions.{Position, Positions, restricted}
 use Rattle.wb_layout.proofs.Kept.{get-restricted, all_kept}
 use Rattle.wb_layout.proofs.KeyOrder.{key_cmp_total, key_cmp-IsAntisymmetric}
-use Rattle.wb_answers.specs.SameKeys.{among, same_key}
-use Rattle.wb_answers.proofs.SameKeyLaws.{key_equiv, key_is}
+use Rattle.wb_marks.specs.SameKeys.{among, same_key}
+use Rattle.wb_marks.proofs.SameKeyLaws.{key_equiv, key_is}
 use Rattle.wb_marks.specs.Marks.{AreOf, is_declared, settled}
 use Rattle.wb_marks.specs.declared.marks.Marks.{Marks}
 
@@ -70,12 +70,9 @@ restricted_among m nodes key h =
     there (among nodes key) (get m key) (subst (λ (o : Option Position). IsSome o) (get-restricted m nodes key ∙ ap (λ b. cond b (get m key) None) (is_key_among nodes key)) h)
 
 stays_at : (b : Bool) (at : Option Position) → (IsSome at → b ≡ true) → at ≡ cond b at None
-stays_at b None h = none b
-  where
-    none : (b : Bool) → None {T = Position} ≡ cond b None None
-    none true = refl
-    none false = refl
-stays_at b (Some at) h = sym (ap (λ e. cond e (Some at) None) (h refl))
+stays_at true at h = refl
+stays_at false None h = refl
+stays_at false (Some at) h = absurd (false≢true (h refl))
 
 pub restricted_all : (m : Positions) (nodes : List Key) → ((key : Key) → IsSome (get m key) → among nodes key ≡ true) → restricted m nodes ≡ m
 restricted_all m nodes all =
