@@ -82,12 +82,7 @@ fn push_show(
 ) -> Result<(), AllocError> {
     shown.push_str("show; parent ")?;
     push_key_or_null(shown, parent)?;
-    write!(
-        shown,
-        "; mapping {}; object {}",
-        mapping.as_str(),
-        object.0
-    )
+    write!(shown, "; mapping {}; object {}", mapping.as_str(), object.0)
 }
 
 /// A command that gives a key first.

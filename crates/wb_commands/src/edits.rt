@@ -46,11 +46,7 @@ pub(crate) fn read_take(alloc: Global, value: &Value) -> Result<Action, Wrong>
 pub(crate) fn read_unset(alloc: Global, value: &Value) -> Result<Action, Wrong>
     ensures { Gives result (unset_of (view value.now)) }
 {
-    listed(
-        alloc,
-        value,
-        &["command", "revision", "object", "feature"],
-    )?;
+    listed(alloc, value, &["command", "revision", "object", "feature"])?;
     let slot = read_slot(alloc, value, "object")?;
     Ok(Action::Unset { slot })
 }
