@@ -1,5 +1,5 @@
 -- The edit that a command asks for by names, or why its names name nothing.
-use Rattle.std.specs.Prelude.{⊤, ℕ, List, Option, Some, None, Result, Ok, Err, ok_or}
+use Rattle.std.specs.Prelude.{⊤, ℕ, List, Option, Some, None, Result, Ok, ok_or}
 use Rattle.std.specs.Option.{option_map_or}
 use Rattle.wb_base.specs.Results.{◌>>=◌}
 use Rattle.wb_ecore.specs.declared.features.Feature.{Feature}

@@ -39,7 +39,10 @@ fn edited_copy(alloc: Global, model: Model, edit: Edit) -> Result<EditedModel, M
 {
     let mut changed = model;
     match changed.edit(alloc, edit, &mut ChangeList::new()) {
-        Ok(made) => Ok(EditedModel { model: changed, made }),
+        Ok(made) => Ok(EditedModel {
+            model: changed,
+            made,
+        }),
         Err(refusal) => Err(refusal),
     }
 }

@@ -41,11 +41,7 @@ pub fn class_named(model: &Model, name: &Text) -> Result<ClassId, NameRefusal>
 }
 
 /// The feature of a slot, by its name among those of the object's class.
-pub fn feature_in(
-    model: &Model,
-    class: ClassId,
-    slot: &NamedSlot,
-) -> Result<FeatureId, NameRefusal>
+pub fn feature_in(model: &Model, class: ClassId, slot: &NamedSlot) -> Result<FeatureId, NameRefusal>
     requires { class < length model.now.metamodel.classes }
     ensures feature { result ≡ feature_in model.now class slot.now }
     ensures known { IfOk result (λ f. f < length model.now.metamodel.features) }

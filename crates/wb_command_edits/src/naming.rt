@@ -1,4 +1,5 @@
-ghost use Rattle.std.specs.Prelude.{◌<◌, length, Some, Result, IfOk, IfSome, option_transpose};
+ghost use Rattle.std.specs.Prelude.{◌<◌, length, Some, Result, IfOk, IfSome};
+ghost use Rattle.std.specs.Option.{option_transpose};
 ghost use Rattle.wb_base.specs.Answering.{AsDefined};
 ghost use Rattle.wb_metamodel.specs.Metamodel.{Metamodel};
 ghost use Rattle.wb_model.specs.declared.edits.edit.Edit.{Edit};
@@ -46,11 +47,7 @@ fn asked(edit: Result<Edit, NameRefusal>) -> Result<Option<Edit>, NameRefusal>
     }
 }
 
-fn create_named(
-    model: &Model,
-    class: &Text,
-    slot: &Option<NamedSlot>,
-) -> Result<Edit, NameRefusal>
+fn create_named(model: &Model, class: &Text, slot: &Option<NamedSlot>) -> Result<Edit, NameRefusal>
     ensures named { AsDefined named (create_named model.now class.now slot.now) result }
     ensures known { IfOk result (EditIsKnown model.now.metamodel) }
 {

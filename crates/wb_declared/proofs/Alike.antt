@@ -9,7 +9,7 @@ use Rattle.wb_refresh.specs.Openings.{all_units}
 use Rattle.wb_refresh.specs.Outcomes.{Gives, outcome}
 use Rattle.wb_refresh.specs.Subjects.{Subject}
 use Rattle.wb_refresh.specs.Weights.{is_over}
-use Rattle.wb_declared.specs.Declared.{DeclaresAlike, declared_edges, declared_nodes}
+use Rattle.wb_declared.specs.Declarations.{DeclaresAlike, declared_edges, declared_nodes}
 
 pub units_alike : (a b : Scene) (told : Told) → a.spec ≡ b.spec → node_units a told ≡ node_units b told → edge_units_of a told ≡ edge_units_of b told → nodes a told ≡ nodes b told → edges_of a told ≡ edges_of b told → units_of a told ≡ units_of b told
 unfolding units_of

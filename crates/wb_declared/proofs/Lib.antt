@@ -5,7 +5,7 @@ pub mod Lists
 pub mod MarkLaws
 pub mod Marking
 pub mod NextLaws
+pub mod OneKey
 pub mod Paths
 pub mod Recorded
-pub mod Standing
 pub mod Tests

@@ -17,7 +17,7 @@ use Rattle.wb_edges.specs.Edges.{edge_units, edges, scene_of as among_nodes}
 use Rattle.wb_refresh.specs.Diagrams.{edges_of, units_of}
 use Rattle.wb_refresh.specs.Outcomes.{Gives, told}
 use Rattle.wb_refresh.specs.Subjects.{Setting, subject_in}
-use Rattle.wb_declared.specs.Declared.{DeclaresAlike, declared_nodes}
+use Rattle.wb_declared.specs.Declarations.{DeclaresAlike, declared_nodes}
 use Rattle.wb_declared.specs.Marks.{DropsUndeclared, settled}
 use Rattle.wb_declared.proofs.Alike.{alike_parts, units_alike}
 use Rattle.wb_declared.proofs.Keys.{all_among, among_filter}

@@ -23,7 +23,7 @@ use Rattle.wb_refresh.specs.Openings.{is_too_large}
 use Rattle.wb_refresh.specs.Outcomes.{Gives, ended, nothing, outcome, outcome_by, told}
 use Rattle.wb_refresh.specs.Subjects.{Setting, Subject, scene, setting}
 use Rattle.wb_refresh.specs.Weights.{is_over}
-use Rattle.wb_declared.specs.Declared.{DeclaresAlike, declared_edges, declared_nodes, renumbered}
+use Rattle.wb_declared.specs.Declarations.{DeclaresAlike, declared_edges, declared_nodes, renumbered}
 use Rattle.wb_declared.proofs.Alike.{alike_parts, units_alike}
 
 -- ---- cells

@@ -23,7 +23,7 @@ use Rattle.wb_refresh.specs.Openings.{IsOpened, Kept, all_units, answer_in, is_a
 use Rattle.wb_refresh.specs.Outcomes.{Gives, outcome, told}
 use Rattle.wb_refresh.specs.SameUnits.{same_unit}
 use Rattle.wb_refresh.specs.Subjects.{Setting, Subject, scene, subject_in}
-use Rattle.wb_declared.specs.Declared.{declared_nodes}
+use Rattle.wb_declared.specs.Declarations.{declared_nodes}
 use Rattle.wb_declared.specs.Standing.{fits_under, gives_object, gives_true, is_admitted, key_under, leads_to, may_stand, meets, would_stand}
 use Rattle.wb_declared.proofs.Children.{among_candidates}
 use Rattle.wb_declared.proofs.Lists.{any_flat, any_implied}

@@ -1,3 +1,3 @@
-pub mod Declared
+pub mod Declarations
 pub mod Marks
 pub mod Standing

@@ -4,7 +4,7 @@ use Rattle.wb_diagram.specs.declared.keys.Key.{Key}
 use Rattle.wb_answers.specs.SameKeys.{among}
 use Rattle.wb_refresh.specs.Outcomes.{Gives}
 use Rattle.wb_refresh.specs.Subjects.{Setting, subject_in}
-use Rattle.wb_declared.specs.Declared.{declared_nodes}
+use Rattle.wb_declared.specs.Declarations.{declared_nodes}
 
 -- the second marks no key that the first does not, and each declared element that the first does
 pub record DropsUndeclared (declared a b : List Key) : Type 0 where

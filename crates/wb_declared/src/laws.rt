@@ -5,7 +5,7 @@ ghost use Rattle.wb_spec_check.specs.declared.checked_mappings.CheckedNode.{Chec
 ghost use Rattle.wb_answers.specs.SameKeys.{among};
 ghost use Rattle.wb_nodes.specs.Nodes.{node_mapping};
 ghost use Rattle.wb_refresh.specs.Subjects.{Setting, Subject, subject_in};
-ghost use Rattle.wb_declared.specs.Declared.{DeclaresAlike, declared_nodes, renumbered};
+ghost use Rattle.wb_declared.specs.Declarations.{DeclaresAlike, declared_nodes, renumbered};
 ghost use Rattle.wb_declared.specs.Marks.{DropsUndeclared, settled};
 ghost use Rattle.wb_declared.specs.Standing.{key_under};
 

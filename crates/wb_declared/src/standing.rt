@@ -7,7 +7,7 @@ ghost use Rattle.wb_answers.specs.SameKeys.{among};
 ghost use Rattle.wb_nodes.specs.Nodes.{candidates_at, is_cut, parent_of};
 ghost use Rattle.wb_refresh.specs.Openings.{IsOpened};
 ghost use Rattle.wb_refresh.specs.Subjects.{subject};
-ghost use Rattle.wb_declared.specs.Declared.{declared_nodes};
+ghost use Rattle.wb_declared.specs.Declarations.{declared_nodes};
 ghost use Rattle.wb_declared.specs.Standing.{fits_under, gives_object, gives_true, is_admitted, key_under, leads_to, may_stand, meets, would_stand};
 
 use crate::mappings::{is_conditional, may_stand, node_mapping};
@@ -126,8 +126,9 @@ fn fits_under(model: &Model, path: &[Pair], node: &CheckedNode, own: Pair) -> bo
     requires { node.now.objects.domain < length model.now.metamodel.classes }
     ensures { result ≡ fits_under model.now path.now node.now own }
 {
+    let object = own.object;
     let cut = is_cut(path, own);
-    model.is_of_class(own.object, node.objects.domain) && !cut
+    model.is_of_class(object, node.objects.domain) && !cut
 }
 
 // Does the pair stand in the path, or has the path 32 pairs already?

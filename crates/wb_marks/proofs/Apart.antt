@@ -1,5 +1,5 @@
 -- Lists in which nothing stands twice.
-use Rattle.std.proofs.Common.{◌≡◌, ℕ, Bool, true, false, cond, nat_eq, List, [], ◌∷◌, ◌++◌, refl, sym, ap, ◌∙◌, subst}
+use Rattle.std.proofs.Common.{◌≡◌, ℕ, Bool, true, false, cond, nat_eq, List, [], ◌∷◌, ◌++◌, refl}
 use Rattle.std.proofs.lemmas.Map.Keys.{IsDistinct-push}
 use Rattle.std.specs.Cmp.{IsEquivalence, nat_eq_equiv}
 use Rattle.std.specs.List.{IsDistinct, list_any}
@@ -9,10 +9,10 @@ use Rattle.wb_diagram.specs.declared.keys.AnyKey.TheVariants.{Node, Edge}
 use Rattle.wb_diagram.specs.declared.keys.EdgeKey.{EdgeKey}
 use Rattle.wb_diagram.specs.declared.keys.Key.{Key}
 use Rattle.wb_layout.specs.Positions.{Position}
-use Rattle.wb_marks.specs.SameKeys.{same_any, same_key}
-use Rattle.wb_marks.proofs.SameKeyLaws.{edge_equiv, key_equiv}
+use Rattle.wb_answers.specs.SameKeys.{same_any, same_key}
+use Rattle.wb_answers.proofs.SameKeyLaws.{edge_equiv, key_equiv}
 use Rattle.wb_marks.specs.Marks.{AreDistinct, arranged, hidden_too, placed, revealed, settled, shown_too, switched, unmarked, unshown, with_filter, with_layer}
-use Rattle.wb_marks.specs.Ones.{with_one, without_one}
+use Rattle.wb_marks.specs.Ones.{with_one}
 use Rattle.wb_marks.specs.declared.marks.Marks.{Marks}
 
 any_congr : (x y z : AnyKey) → same_any x y ≡ true → same_any x z ≡ same_any y z

@@ -1,4 +1,3 @@
 pub mod SameOnes
 pub mod Settled
 pub mod Apart
-pub mod SameKeyLaws

@@ -8,8 +8,8 @@ use Rattle.wb_diagram.specs.declared.keys.Key.{Key}
 use Rattle.wb_diagram.specs.contracts.keys.AnyKeyPartialEq.TheImpl as any
 use Rattle.wb_diagram.specs.contracts.keys.EdgeKeyPartialEq.TheImpl as edge
 use Rattle.wb_diagram.specs.contracts.keys.KeyPartialEq.TheImpl as node
-use Rattle.wb_marks.specs.SameKeys.{among, same_any, same_edge, same_key}
-use Rattle.wb_marks.proofs.SameKeyLaws.{same_keys}
+use Rattle.wb_answers.specs.SameKeys.{among, same_any, same_edge, same_key}
+use Rattle.wb_answers.proofs.SameKeyLaws.{same_keys}
 use Rattle.wb_marks.specs.Marks.{is_declared}
 use Rattle.wb_marks.specs.Ones.{with_one, without_one, SameItems}
 use Rattle.wb_marks.specs.DeclaredKeys.{Declare}

@@ -1,5 +1,5 @@
 -- Marks that are settled.
-use Rattle.std.proofs.Common.{◌≡◌, Bool, true, false, ◌&&◌, cond, is_some, List, [], ◌∷◌, filter, Option, Some, None, refl, sym, ap, ◌∙◌, subst}
+use Rattle.std.proofs.Common.{◌≡◌, Bool, true, false, cond, List, [], ◌∷◌, filter, Option, Some, None, refl, sym, ap, ◌∙◌, subst}
 use Rattle.std.proofs.lemmas.Bool.{false≢true, and_parts, and_from}
 use Rattle.std.specs.Cmp.{eq_by_cmp_equiv}
 use Rattle.std.specs.FinMap.{get}
@@ -8,7 +8,6 @@ use Rattle.std.specs.Ordering.{is_eq}
 use Rattle.std.specs.Prelude.{IsSome}
 use Rattle.std.specs.declared.cmp.Ordering.{Ordering}
 use Rattle.std.specs.declared.cmp.Ordering.TheVariants as c
-use Rattle.wb_diagram.specs.declared.keys.AnyKey.{AnyKey}
 use Rattle.wb_diagram.specs.declared.keys.EdgeKey.{EdgeKey}
 use Rattle.wb_diagram.specs.declared.keys.Key.{Key}
 use Rattle.wb_layout.specs.Orders as orders
@@ -16,8 +15,8 @@ use Rattle.wb_layout.specs.Orders.{is_key, key_cmp}
 use Rattle.wb_layout.specs.Positions.{Position, Positions, restricted}
 use Rattle.wb_layout.proofs.Kept.{get-restricted, all_kept}
 use Rattle.wb_layout.proofs.KeyOrder.{key_cmp_total, key_cmp-IsAntisymmetric}
-use Rattle.wb_marks.specs.SameKeys.{among, same_key}
-use Rattle.wb_marks.proofs.SameKeyLaws.{key_equiv, key_is}
+use Rattle.wb_answers.specs.SameKeys.{among, same_key}
+use Rattle.wb_answers.proofs.SameKeyLaws.{key_equiv, key_is}
 use Rattle.wb_marks.specs.Marks.{AreOf, is_declared, settled}
 use Rattle.wb_marks.specs.declared.marks.Marks.{Marks}
 

@@ -2,7 +2,7 @@
 use Rattle.std.specs.Prelude.{List}
 use Rattle.wb_diagram.specs.declared.keys.EdgeKey.{EdgeKey}
 use Rattle.wb_diagram.specs.declared.keys.Key.{Key}
-use Rattle.wb_marks.specs.SameKeys.{same_edge, same_key}
+use Rattle.wb_answers.specs.SameKeys.{same_edge, same_key}
 use Rattle.wb_marks.specs.Ones.{SameItems}
 use Rattle.wb_marks.specs.declared.settling.Declared.{Declared}
 

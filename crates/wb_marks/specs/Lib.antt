@@ -1,4 +1,3 @@
 pub mod DeclaredKeys
 pub mod Marks
 pub mod Ones
-pub mod SameKeys

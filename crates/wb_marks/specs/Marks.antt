@@ -9,7 +9,7 @@ use Rattle.wb_diagram.specs.declared.keys.Key.{Key}
 use Rattle.wb_layout.specs.Grid as grid
 use Rattle.wb_layout.specs.Positions as positions
 use Rattle.wb_layout.specs.Positions.{Position}
-use Rattle.wb_marks.specs.SameKeys.{among, same_any, same_edge, same_key}
+use Rattle.wb_answers.specs.SameKeys.{among, same_any, same_edge, same_key}
 use Rattle.wb_marks.specs.Ones.{with_one, without_one}
 use Rattle.wb_marks.specs.declared.marks.Marks.{Marks}
 

@@ -1,5 +1,5 @@
 ghost use Rattle.std.specs.Prelude.{◌≡◌, IfOk, OnOk};
-ghost use Rattle.wb_marks.specs.SameKeys.{same_any, same_key};
+ghost use Rattle.wb_answers.specs.SameKeys.{same_any, same_key};
 ghost use Rattle.wb_marks.specs.Marks.{hidden_too, revealed, shown_too, unshown};
 ghost use Rattle.wb_marks.specs.Ones.{with_one, without_one};
 

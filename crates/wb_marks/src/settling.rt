@@ -1,7 +1,5 @@
-ghost use Rattle.std.specs.Prelude.{◌≡◌, ℕ, List as Listed, IfOk, filter};
-ghost use Rattle.wb_marks.specs.SameKeys.{among};
-ghost use Rattle.wb_diagram.specs.declared.keys.Key.{Key};
-ghost use Rattle.wb_diagram.specs.declared.keys.EdgeKey.{EdgeKey};
+ghost use Rattle.std.specs.Prelude.{◌≡◌, IfOk, filter};
+ghost use Rattle.wb_answers.specs.SameKeys.{among};
 ghost use Rattle.wb_marks.specs.DeclaredKeys.{Declare};
 ghost use Rattle.wb_marks.specs.Marks.{is_declared, settled};
 
@@ -34,9 +32,7 @@ impl Marks {
         let mut marks = self.copy(alloc)?;
         marks.shown = kept_nodes(alloc, &declared, self.shown.as_slice())?;
         marks.hidden = kept_keys(alloc, &declared, self.hidden.as_slice())?;
-        marks
-            .layout
-            .restrict(alloc, nodes, &mut LayoutLog::new())?;
+        marks.layout.restrict(alloc, nodes, &mut LayoutLog::new())?;
         Ok(marks)
     }
 }
@@ -51,16 +47,12 @@ fn sets_of(alloc: Global, nodes: &[Key], edges: &[EdgeKey]) -> Result<Declared, 
     })
 }
 
-fn kept_nodes(
-    alloc: Global,
-    declared: &Declared,
-    keys: &[Key],
-) -> Result<List<Key>, AllocError>
+fn kept_nodes(alloc: Global, declared: &Declared, keys: &[Key]) -> Result<List<Key>, AllocError>
     ensures { IfOk result (λ kept. kept ≡ filter (among declared.now.nodes.keys) keys.now) }
 {
     let mut kept = List::new(alloc);
     for key in keys {
-        if declared.nodes.contains(key) {
+        if is_node(declared, key) {
             kept.push(key.copy(alloc)?)?;
         }
     }
@@ -87,7 +79,13 @@ fn is_declared(declared: &Declared, key: &AnyKey) -> bool
     ensures { result ≡ is_declared declared.now.nodes.keys declared.now.edges.keys key.now }
 {
     match key {
-        AnyKey::Node(node) => declared.nodes.contains(node),
+        AnyKey::Node(node) => is_node(declared, node),
         AnyKey::Edge(edge) => declared.edges.contains(edge),
     }
+}
+
+fn is_node(declared: &Declared, key: &Key) -> bool
+    ensures { result ≡ among declared.now.nodes.keys key.now }
+{
+    declared.nodes.contains(key)
 }

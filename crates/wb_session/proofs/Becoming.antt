@@ -8,7 +8,7 @@ use Rattle.wb_spec_check.specs.Checked.{Specification}
 use Rattle.wb_refresh.specs.Openings.{IsOpened, Kept}
 use Rattle.wb_refresh.specs.Outcomes.{Gives}
 use Rattle.wb_refresh.specs.Subjects.{Subject, subject}
-use Rattle.wb_declared.specs.Declared.{DeclaresAlike, renumbered}
+use Rattle.wb_declared.specs.Declarations.{DeclaresAlike, renumbered}
 use Rattle.wb_marks.specs.declared.marks.Marks.{Marks}
 use Rattle.wb_session.specs.declared.entries.Entry.{Entry}
 use Rattle.wb_session.specs.declared.entries.TriedState.{TriedState}

@@ -4,7 +4,7 @@ use Rattle.std.specs.Prelude.{IsSome, IfSome, ⊤}
 use Rattle.std.specs.FinMap as positions
 use Rattle.std.specs.List.{AllByRecursion}
 use Rattle.std.specs.Option.{option_map_or}
-use Rattle.std.proofs.lemmas.Bool.{and_parts, ltb-true}
+use Rattle.std.proofs.lemmas.Bool.{and_parts, false≢true, ltb-true}
 use Rattle.std.proofs.lemmas.List.{length-append, length-drop, length-take}
 use Rattle.wb_base.proofs.ListLemmas.{filter-keeps}
 use Rattle.wb_store.specs.Contents.{Contents}
@@ -23,7 +23,7 @@ use Rattle.wb_layout.proofs.Kept.{get-restricted}
 use Rattle.wb_refresh.specs.Openings.{is_too_large}
 use Rattle.wb_refresh.specs.Outcomes.{Gives}
 use Rattle.wb_refresh.specs.Subjects.{Setting, Subject, subject, subject_in}
-use Rattle.wb_declared.specs.Declared.{DeclaresAlike, declared_edges, declared_nodes, renumbered}
+use Rattle.wb_declared.specs.Declarations.{DeclaresAlike, declared_edges, declared_nodes, renumbered}
 use Rattle.wb_declared.specs.Marks.{settled as settled_marks}
 use Rattle.wb_marks.specs.Marks.{settled}
 use Rattle.wb_marks.specs.declared.marks.Marks.{Marks}
@@ -44,7 +44,7 @@ use Rattle.wb_session.proofs.Settling.{becomes_settled, settled_alike, settling_
 
 some_of : {A : Type 0} (b : Bool) (o : Option A) → IsSome (cond b o None) → IsSome o
 some_of true o h = h
-some_of false o h = absurd h
+some_of false o h = absurd (false≢true h)
 
 pub lawful_settled : (spec : Specification) (ns : List Key) (es : List EdgeKey) (marks : Marks) → AreLawful spec marks → AreLawful spec (settled ns es marks)
 lawful_settled spec ns es marks h = record {
@@ -82,7 +82,7 @@ module _ (gives : Gives) where
     becomes_good spec root m marks valid checked conforms fits lawful in_range = record {
       checked = checked;
       valid = valid;
-      root = conforms;
+      rooted = conforms;
       fits = (settling_declares_alike gives undropped spec root m.next (body m marks)).too_large ∙ fits;
       settled = becomes_settled gives undropped spec root m.next (body m marks);
       lawful = lawful_settled spec (declared_nodes gives (subject spec m root marks.shown)) (declared_edges gives (subject spec m root marks.shown)) marks lawful;
@@ -98,7 +98,7 @@ module _ (gives : Gives) where
         record {
           checked = g.checked;
           valid = valid-later (model_at n b) k later few g.valid;
-          root = g.root;
+          rooted = g.rooted;
           fits = alike.too_large ∙ g.fits;
           settled = settled_alike gives (subject_at spec root n b) (subject_at spec root k b) b.marks alike g.settled;
           lawful = g.lawful;

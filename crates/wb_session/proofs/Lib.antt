@@ -4,6 +4,7 @@ pub mod Histories
 pub mod Lawful
 pub mod Lists
 pub mod Opened
+pub mod Rooted
 pub mod Settling
 pub mod Showable
 pub mod Taking

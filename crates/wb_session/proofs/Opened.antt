@@ -10,7 +10,7 @@ use Rattle.wb_refresh.specs.Faults.{problems_of}
 use Rattle.wb_refresh.specs.Openings.{IsOpened, Kept, all_units, is_among}
 use Rattle.wb_refresh.specs.Outcomes.{Gives, outcome, row, told}
 use Rattle.wb_refresh.specs.Subjects.{Setting, subject_in}
-use Rattle.wb_declared.specs.Declared.{declared_edges, declared_nodes}
+use Rattle.wb_declared.specs.Declarations.{declared_edges, declared_nodes}
 use Rattle.wb_declared.specs.Marks.{settled}
 use Rattle.wb_declared.proofs.MarkLaws.{same_units, settled_drops, settled_is_alike}
 

@@ -7,11 +7,11 @@ use Rattle.wb_diagram.specs.declared.keys.Key.{Key}
 use Rattle.wb_spec_check.specs.Checked.{Specification}
 use Rattle.wb_refresh.specs.Outcomes.{Gives}
 use Rattle.wb_refresh.specs.Subjects.{Setting, Subject, setting, subject_in}
-use Rattle.wb_declared.specs.Declared.{DeclaresAlike, declared_edges, declared_nodes}
+use Rattle.wb_declared.specs.Declarations.{DeclaresAlike, declared_edges, declared_nodes}
 use Rattle.wb_declared.specs.Marks.{settled as settled_marks}
 use Rattle.wb_marks.specs.Marks.{AreOf, settled}
 use Rattle.wb_marks.specs.declared.marks.Marks.{Marks}
-use Rattle.wb_marks.proofs.Settling.{settled_of, settled_stay}
+use Rattle.wb_marks.proofs.Settled.{settled_of, settled_stay}
 use Rattle.wb_session.specs.States.{AreLawful, AreSettled, Body, model_at, subject_at}
 use Rattle.wb_session.specs.Steps.{settled_body}
 

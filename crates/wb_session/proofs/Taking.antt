@@ -1,5 +1,5 @@
 -- A step that was taken, and which way it went.
-use Rattle.std.proofs.Common.{◌≡◌, ◌+◌, ◌<◌, ℕ, Bool, true, false, not, nat_le, nat_eq, if◌then◌else◌, cond, List, Option, Some, None, Result, Ok, Err, refl, sym, ap, subst, ◌∙◌, arith}
+use Rattle.std.proofs.Common.{◌≡◌, ◌+◌, ◌<◌, ◌&&◌, ℕ, ℤ, Bool, true, false, not, nat_le, nat_eq, if◌then◌else◌, cond, List, Option, Some, None, Result, Ok, Err, refl, sym, ap, subst, ◌∙◌, arith}
 use Rattle.std.specs.Prelude.{⊤}
 use Rattle.std.specs.Option.{option_map_or}
 use Rattle.circular_buffer.specs.Buffer.{keep_last, last_item}
@@ -10,24 +10,28 @@ use Rattle.wb_diagram.specs.declared.commands.Action.TheVariants.{Create, Set, A
 use Rattle.wb_diagram.specs.declared.commands.Command.{Command}
 use Rattle.wb_diagram.specs.declared.keys.AnyKey.{AnyKey}
 use Rattle.wb_diagram.specs.declared.keys.AnyKey.TheVariants.{Node, Edge}
+use Rattle.wb_diagram.specs.declared.keys.Key.{Key}
 use Rattle.wb_diagram.specs.declared.keys.Pair.{Pair}
 use Rattle.wb_store.specs.Contents.{Contents}
 use Rattle.wb_model.specs.declared.edits.edit.Edit.{Edit}
 use Rattle.wb_model.specs.declared.refusals.ModelRefusal.{ModelRefusal}
+use Rattle.wb_model.specs.Edits.{is_live}
 use Rattle.wb_model.specs.GivenEdits.{edit_of, number_made}
+use Rattle.wb_spec_check.specs.Units.{mapping_of_key}
 use Rattle.wb_nodes.specs.Nodes.{child}
 use Rattle.wb_refresh.specs.Outcomes.{Gives}
 use Rattle.wb_command_edits.specs.NamedEdits.{edit_named}
 use Rattle.wb_command_edits.specs.declared.refusal.NameRefusal.{NameRefusal}
-use Rattle.wb_targets.specs.Targets.{additional_layer_named, filter_named, mapping_named}
+use Rattle.wb_marks.specs.Marks.{hidden_too, placed, revealed, shown_too, unshown}
+use Rattle.wb_targets.specs.Targets.{additional_layer_named, filter_named, is_placeable, is_unsynchronised, mapping_named}
 use Rattle.wb_session.specs.declared.refusal.Refusal.{Refusal}
 use Rattle.wb_session.specs.declared.refusal.Refusal.TheVariants as r
 use Rattle.wb_session.specs.declared.turn.Turn.{Turn}
 use Rattle.wb_session.specs.declared.turn.Turn.TheVariants as turns
 use Rattle.wb_session.specs.Laws.{IsForward}
-use Rattle.wb_session.specs.States.{State, model_of}
+use Rattle.wb_session.specs.States.{State, is_declared, model_of, subject_of}
 use Rattle.wb_session.specs.Steps.{Stepped, accepted, current, stands, step, stepped}
-use Rattle.wb_session.specs.Tries.{Tried, after_edit, asked_edit, by_name, edited, filtered, layered, marked, moved, path_of, shown_by, tried, unshown_any}
+use Rattle.wb_session.specs.Tries.{Tried, after_edit, asked_edit, by_name, edited, filtered, is_near, known, layered, live, marked, moved, path_of, shown_by, shown_candidate, tried, unshown_any, would_be_declared}
 
 -- ---- a step that was taken
 
@@ -44,14 +48,14 @@ module _ (gives : Gives) where
   unfolding step
   taken s command t e =
       let one = then_ok (current s command.revision) (λ (x : ⊤). tried gives s command.action >>= (λ (a : Tried). stands gives s.spec s.root a >>= (λ (y : ⊤). let z : Result Stepped Refusal = Ok (stepped gives s a) in z))) t e in
-      let two = then_ok (tried gives s command.action) (λ (a : Tried). stands gives s.spec s.root a >>= (λ (y : ⊤). let z : Result Stepped Refusal = Ok (stepped gives s a) in z)) t one.1.1 in
-      let three = then_ok (stands gives s.spec s.root two.0) (λ (y : ⊤). let z : Result Stepped Refusal = Ok (stepped gives s two.0) in z) t two.1.1 in
+      let two = then_ok (tried gives s command.action) (λ (a : Tried). stands gives s.spec s.root a >>= (λ (y : ⊤). let z : Result Stepped Refusal = Ok (stepped gives s a) in z)) t one.2 in
+      let three = then_ok (stands gives s.spec s.root two.0) (λ (y : ⊤). let z : Result Stepped Refusal = Ok (stepped gives s two.0) in z) t two.2 in
       record {
         a = two.0;
-        current_is = one.1.0;
-        tried_is = two.1.0;
-        stands_is = three.1.0;
-        new_is = ap (λ (x : Stepped). x.state) (same_ok {E = Refusal} (stepped gives s two.0) t three.1.1);
+        current_is = one.1;
+        tried_is = two.1;
+        stands_is = three.1;
+        new_is = ap (λ (x : Stepped). x.state) (same_ok {E = Refusal} (stepped gives s two.0) t three.2);
       }
 
 -- ---- forward
@@ -81,12 +85,16 @@ asked_forward : (s : State) (action : Action) → GoesForward (asked_edit s acti
 unfolding asked_edit
 asked_forward s action = asked_by s (edit_named (model_of s) action)
 
-moved_forward : (s : State) (key : AnyKey) (x y : _) → GoesForward (moved s key x y)
-moved_forward s (Node key) x y = either _ _ _ tt (either _ _ _ refl tt)
+moved_forward : (s : State) (key : AnyKey) (x y : ℤ) → GoesForward (moved s key x y)
+moved_forward s (Node key) x y =
+    let there : Result Tried Refusal = marked s (placed key (x, y) s.body.marks) in
+    let near : Bool = is_near x && is_near y in
+    either (not (is_placeable s.spec key)) (Err r.NotPlaceable) (if near then there else Err r.PositionOutOfRange) tt (either near there (Err r.PositionOutOfRange) refl tt)
 moved_forward s (Edge key) x y = tt
 
 unshown_forward : (s : State) (key : AnyKey) → GoesForward (unshown_any s key)
-unshown_forward s (Node key) = either _ _ _ refl tt
+unshown_forward s (Node key) =
+    either (option_map_or (is_unsynchronised s.spec) (mapping_of_key (Node key)) false) (marked s (unshown key s.body.marks)) (Err r.NotUnsynchronised) refl tt
 unshown_forward s (Edge key) = tt
 
 layered_forward : (s : State) (active : Bool) (n : Option ℕ) → GoesForward (layered s active n)
@@ -98,13 +106,22 @@ filtered_forward s active (Some n) = refl
 filtered_forward s active None = tt
 
 module _ (gives : Gives) where
+  shown_forward : (s : State) (key : Key) → GoesForward (shown_candidate gives s key)
+  shown_forward s key = either (would_be_declared gives s key) (marked s (shown_too key s.body.marks)) (Err r.NotCandidate) refl tt
+
   shown_by_forward : (s : State) (path : List Pair) (o : ℕ) (n : Option ℕ) → GoesForward (shown_by gives s path o n)
-  shown_by_forward s path o (Some n) = either _ _ _ (either _ _ _ refl tt) tt
+  shown_by_forward s path o (Some n) = either (is_unsynchronised s.spec n) (shown_candidate gives s (child path n o)) (Err r.NotUnsynchronised) (shown_forward s (child path n o)) tt
   shown_by_forward s path o None = tt
 
   path_forward : (s : State) (path : Result (List Pair) Refusal) (o : ℕ) (n : Option ℕ) → GoesForward (path >>= (λ (p : List Pair). shown_by gives s p o n))
   path_forward s (Ok path) o n = shown_by_forward s path o n
   path_forward s (Err refusal) o n = tt
+
+  known_forward : (s : State) (key : AnyKey) (next : Result Tried Refusal) → GoesForward next → GoesForward (known gives s key next)
+  known_forward s key next h = either (is_declared gives (subject_of s) key) next (Err r.UnknownElement) h tt
+
+  live_forward : (s : State) (o : ℕ) (next : Result Tried Refusal) → GoesForward next → GoesForward (live gives s o next)
+  live_forward s o next h = either (is_live (model_of s) o) next (Err r.UnknownObject) h tt
 
   forward : (s : State) (action : Action) → IsForward action → GoesForward (tried gives s action)
   unfolding tried
@@ -116,14 +133,15 @@ module _ (gives : Gives) where
   forward s (MoveTo o slot) f = asked_forward s (MoveTo o slot)
   forward s (Remove o) f = asked_forward s (Remove o)
   forward s (Tool tool arguments) f = tt
-  forward s (Move key x y) f = either _ _ _ (moved_forward s key x y) tt
+  forward s (Move key x y) f = known_forward s key (moved s key x y) (moved_forward s key x y)
   forward s Arrange f = refl
   forward s Undo f = absurd f
   forward s Redo f = absurd f
-  forward s (Show parent mapping o) f = either _ _ _ (path_forward s (path_of gives s parent) o (mapping_named s.spec mapping)) tt
-  forward s (Unshow key) f = either _ _ _ (unshown_forward s key) tt
-  forward s (Hide key) f = either _ _ _ refl tt
-  forward s (Reveal key) f = either _ _ _ refl tt
+  forward s (Show parent mapping o) f =
+      live_forward s o (path_of gives s parent >>= (λ (p : List Pair). shown_by gives s p o (mapping_named s.spec mapping))) (path_forward s (path_of gives s parent) o (mapping_named s.spec mapping))
+  forward s (Unshow key) f = known_forward s key (unshown_any s key) (unshown_forward s key)
+  forward s (Hide key) f = known_forward s key (marked s (hidden_too key s.body.marks)) refl
+  forward s (Reveal key) f = known_forward s key (marked s (revealed key s.body.marks)) refl
   forward s (Layer layer active) f = layered_forward s active (additional_layer_named s.spec layer)
   forward s (Filter filter active) f = filtered_forward s active (filter_named s.spec filter)
 

@@ -9,7 +9,7 @@ use Rattle.wb_diagram.specs.declared.keys.EdgeKey.{EdgeKey}
 use Rattle.wb_diagram.specs.declared.keys.Key.{Key}
 use Rattle.wb_refresh.specs.Outcomes.{Gives}
 use Rattle.wb_refresh.specs.Subjects.{Setting, Subject, subject_in}
-use Rattle.wb_declared.specs.Declared.{DeclaresAlike, declared_edges, declared_nodes, renumbered}
+use Rattle.wb_declared.specs.Declarations.{DeclaresAlike, declared_edges, declared_nodes, renumbered}
 use Rattle.wb_declared.specs.Marks.{settled as settled_marks}
 use Rattle.wb_marks.specs.Marks.{settled}
 use Rattle.wb_marks.specs.declared.marks.Marks.{Marks}

@@ -1,6 +1,8 @@
 -- What a session answers, beside what its definitions give.
 use Rattle.std.specs.Prelude.{◌≡◌, Option, Some, None, Result, Ok, Err}
 use Rattle.wb_base.specs.Answering.{IsRefusal}
+use Rattle.wb_model.specs.declared.refusals.ModelRefusal.{ModelRefusal}
+use Rattle.wb_model.specs.declared.refusals.ModelRefusal.TheVariants as m
 use Rattle.wb_session.specs.declared.accepted.Accepted.{Accepted}
 use Rattle.wb_session.specs.declared.refusal.Refusal.{Refusal}
 use Rattle.wb_session.specs.declared.refusal.Refusal.TheVariants as r
@@ -28,6 +30,17 @@ named r.NothingToRedo = Some r.NothingToRedo
 named (r.Edit refusal) = Some (r.Edit refusal)
 named r.RootRemoved = Some r.RootRemoved
 named r.DiagramTooLarge = Some r.DiagramTooLarge
+
+-- an edit's refusal, as that of a command
+abbrev pub of_edit : ModelRefusal → Refusal
+of_edit m.NoMemory = r.NoMemory
+of_edit m.UnknownObject = r.Edit m.UnknownObject
+of_edit m.KindMismatch = r.Edit m.KindMismatch
+of_edit m.UpperBound = r.Edit m.UpperBound
+of_edit m.ContainmentCycle = r.Edit m.ContainmentCycle
+of_edit m.AbstractClass = r.Edit m.AbstractClass
+of_edit m.TooManyObjects = r.Edit m.TooManyObjects
+of_edit m.IdsSpent = r.Edit m.IdsSpent
 
 -- a step on the way gives what its definition gives, as it is seen; want of memory says nothing of it
 abbrev pub Gives : {A B : Type 0} → (B → A) → Result A Refusal → Result B Refusal → Type 0

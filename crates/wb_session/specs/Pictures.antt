@@ -5,7 +5,7 @@ use Rattle.wb_refresh.specs.Faults.{problems_of}
 use Rattle.wb_refresh.specs.Openings.{all_rows}
 use Rattle.wb_refresh.specs.Outcomes.{Gives, told}
 use Rattle.wb_refresh.specs.Subjects.{Subject}
-use Rattle.wb_declared.specs.Declared.{declared_edges, declared_nodes}
+use Rattle.wb_declared.specs.Declarations.{declared_edges, declared_nodes}
 use Rattle.wb_looks.specs.Visible.{Switches}
 use Rattle.wb_marks.specs.declared.marks.Marks.{Marks}
 use Rattle.wb_picture.specs.Picture as pictures

@@ -14,7 +14,7 @@ use Rattle.wb_layout.specs.Positions.{IsInRange}
 use Rattle.wb_refresh.specs.Openings.{is_too_large}
 use Rattle.wb_refresh.specs.Outcomes.{Gives}
 use Rattle.wb_refresh.specs.Subjects.{Subject, subject}
-use Rattle.wb_declared.specs.Declared.{declared_edges, declared_nodes}
+use Rattle.wb_declared.specs.Declarations.{declared_edges, declared_nodes}
 use Rattle.wb_marks.specs.Marks as marks
 use Rattle.wb_marks.specs.Marks.{AreDistinct, AreOf}
 use Rattle.wb_marks.specs.declared.marks.Marks.{Marks}
@@ -76,7 +76,7 @@ module _ (gives : Gives) where
   pub record IsGoodBody (spec : Specification) (root next : ℕ) (b : Body) : Type 0 where
     pub checked : IsCheckedBy b.model.metamodel spec
     pub valid : IsValid (model_at next b)
-    pub root : conforms_to b.model spec.1.domain root ≡ true
+    pub rooted : conforms_to b.model spec.1.domain root ≡ true
     pub fits : is_too_large gives (subject_at spec root next b) ≡ false
     pub settled : AreSettled gives (subject_at spec root next b) b.marks
     pub lawful : AreLawful spec b.marks

@@ -9,7 +9,7 @@ use Rattle.wb_spec_check.specs.Checked.{Specification}
 use Rattle.wb_refresh.specs.Openings.{is_too_large}
 use Rattle.wb_refresh.specs.Outcomes.{Gives}
 use Rattle.wb_refresh.specs.Subjects.{Subject}
-use Rattle.wb_declared.specs.Declared.{declared_edges, declared_nodes}
+use Rattle.wb_declared.specs.Declarations.{declared_edges, declared_nodes}
 use Rattle.wb_marks.specs.Marks.{settled}
 use Rattle.wb_session.specs.declared.refusal.Refusal.{Refusal}
 use Rattle.wb_session.specs.declared.refusal.Refusal.TheVariants as r

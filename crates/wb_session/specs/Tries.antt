@@ -1,5 +1,5 @@
 -- The state that a command tries, or why it is refused before one is tried.
-use Rattle.std.specs.Prelude.{ℕ, ℤ, Bool, not, ◌&&◌, nat_abs, nat_le, nat_eq, List, [], ◌∷◌, ◌++◌, Option, Some, None, Result, Ok, Err, if◌then◌else◌}
+use Rattle.std.specs.Prelude.{ℕ, ℤ, Bool, false, not, ◌&&◌, nat_abs, nat_le, nat_eq, List, [], ◌∷◌, ◌++◌, Option, Some, None, Result, Ok, Err, if◌then◌else◌}
 use Rattle.std.specs.Option.{option_map_or}
 use Rattle.circular_buffer.specs.Buffer.{last_item}
 use Rattle.wb_base.specs.Results.{◌>>=◌}
@@ -22,7 +22,7 @@ use Rattle.wb_refresh.specs.Subjects.{Subject, subject}
 use Rattle.wb_command_edits.specs.NamedEdits.{edit_named}
 use Rattle.wb_command_edits.specs.declared.refusal.NameRefusal.{NameRefusal}
 use Rattle.wb_command_edits.specs.declared.refusal.NameRefusal.TheVariants as name
-use Rattle.wb_declared.specs.Declared.{declared_nodes}
+use Rattle.wb_declared.specs.Declarations.{declared_nodes}
 use Rattle.wb_marks.specs.Marks.{arranged, hidden_too, placed, revealed, shown_too, unshown, with_filter, with_layer}
 use Rattle.wb_marks.specs.declared.marks.Marks.{Marks}
 use Rattle.wb_targets.specs.Targets.{additional_layer_named, filter_named, is_placeable, is_unsynchronised, mapping_named, placeable}
@@ -74,8 +74,8 @@ asked_edit s action = option_map_or (by_name s) (edit_named (model_of s) action)
 
 -- a body as it was, with the present number of the next object
 abbrev pub restored : State → Turn → Refusal → Option Body → Result Tried Refusal
-restored s back refusal (Some b) = Ok (record { next = s.next; body = b; created = None; turn = back })
-restored s back refusal None = Err refusal
+restored s way refusal (Some b) = Ok (record { next = s.next; body = b; created = None; turn = way })
+restored s way refusal None = Err refusal
 
 -- ---- positions
 

@@ -4,6 +4,8 @@ ghost use Rattle.wb_session.specs.States.{model_of};
 ghost use Rattle.wb_session.specs.Tries.{asked_edit, edited, marked};
 ghost use Rattle.wb_session.specs.invariants.Keeping.{GoesOn, tried_of};
 ghost use Rattle.wb_model.specs.GivenEdits.{EditIsKnown};
+ghost use Rattle.wb_session.specs.Answering.{of_edit};
+ghost use Rattle.wb_session.specs.declared.turn.Turn.TheVariants.{Forward as Onward};
 
 use crate::entries::TriedState;
 use crate::refusal::Refusal;
@@ -12,8 +14,9 @@ use crate::turn::Turn;
 use std::alloc::Global;
 use wb_aql_eval::Evaluator;
 use wb_base::Duplicate;
-use wb_command_edits::{edit_named, edited};
+use wb_command_edits::{EditedModel, edit_named, edited};
 use wb_diagram::Action;
+use wb_marks::Marks;
 use wb_model::{Edit, ModelRefusal};
 
 impl<E: Evaluator> Session<E> {
@@ -37,14 +40,8 @@ impl<E: Evaluator> Session<E> {
     {
         let marks = self.marks.copy(alloc)?;
         match edited(alloc, &self.model, edit) {
-            Ok(made) => Ok(TriedState {
-                model: made.model,
-                marks,
-                created: made.made,
-                turn: Turn::Forward,
-            }),
-            Err(ModelRefusal::NoMemory) => Err(Refusal::NoMemory),
-            Err(refusal) => Err(Refusal::Edit(refusal)),
+            Ok(made) => Ok(forward(made, marks)),
+            Err(refusal) => Err(edit_refusal(refusal)),
         }
     }
 
@@ -55,5 +52,27 @@ impl<E: Evaluator> Session<E> {
     {
         let marks = self.marks.copy(alloc)?;
         self.remarked(alloc, marks)
+    }
+}
+
+// An edited model under these marks, a step further.
+fn forward(made: EditedModel, marks: Marks) -> TriedState
+    ensures { result ≡ record { model = made.model; marks = marks; created = made.made; turn = Onward } }
+{
+    TriedState {
+        model: made.model,
+        marks,
+        created: made.made,
+        turn: Turn::Forward,
+    }
+}
+
+// The refusal of an edit, as that of a command.
+fn edit_refusal(refusal: ModelRefusal) -> Refusal
+    ensures { result ≡ of_edit refusal }
+{
+    match refusal {
+        ModelRefusal::NoMemory => Refusal::NoMemory,
+        _ => Refusal::Edit(refusal),
     }
 }

@@ -2,6 +2,7 @@ ghost use Rattle.std.specs.Prelude.{◌≡◌, false, IfOk};
 ghost use Rattle.std.specs.Option.{option_map_or};
 ghost use Rattle.wb_diagram.specs.declared.keys.AnyKey.TheVariants.{Node as NodeKey};
 ghost use Rattle.wb_spec_check.specs.Units.{mapping_of_key};
+ghost use Rattle.wb_answers.specs.SameKeys.{among};
 ghost use Rattle.wb_marks.specs.Marks.{is_declared as is_of};
 ghost use Rattle.wb_targets.specs.Targets.{is_unsynchronised};
 ghost use Rattle.wb_session.specs.Answering.{Gives};
@@ -166,9 +167,16 @@ fn is_among(nodes: &[Key], edges: &[EdgeKey], key: &AnyKey) -> bool
     ensures { result ≡ is_of nodes.now edges.now key.now }
 {
     match key {
-        AnyKey::Node(key) => nodes.contains(key),
-        AnyKey::Edge(key) => edges.contains(key),
+        AnyKey::Node(key) => is_node(nodes, key),
+        AnyKey::Edge(key) => edges.iter().any(|edge| key == edge),
     }
+}
+
+/// Is the key one of these elements'?
+pub(crate) fn is_node(nodes: &[Key], key: &Key) -> bool
+    ensures { result ≡ among nodes.now key.now }
+{
+    nodes.iter().any(|node| key == node)
 }
 
 fn is_near(x: i64) -> bool

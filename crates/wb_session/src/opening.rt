@@ -64,20 +64,11 @@ pub fn root_element(model: &Model, class: ClassId) -> Option<ObjectId>
 }
 
 // What a session has beside its viewpoint and its model.
+#[derive(Drop)]
 struct Begun<E> {
     marks: Marks,
     history: History<Entry>,
     diagram: Refresh<E>,
-}
-
-impl<E> Drop for Begun<E> {
-    fn drop(self) {
-        let Begun {
-            marks: _marks,
-            history: _history,
-            diagram: _diagram,
-        } = self;
-    }
 }
 
 impl<E: Evaluator> Session<E> {

@@ -1,5 +1,5 @@
 ghost use Rattle.std.specs.Prelude.{◌≡◌, ◌+◌, ◌≤◌, length};
-ghost use Rattle.wb_declared.specs.Declared.{declared_edges, declared_nodes};
+ghost use Rattle.wb_declared.specs.Declarations.{declared_edges, declared_nodes};
 ghost use Rattle.wb_refresh.specs.Openings.{IsOpened, all_units};
 ghost use Rattle.wb_session.specs.States.{IsGood, model_of, subject_of};
 

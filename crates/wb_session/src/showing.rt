@@ -1,6 +1,6 @@
 ghost use Rattle.std.specs.Prelude.{◌≡◌, true, IfOk};
 ghost use Rattle.wb_answers.specs.SameKeys.{among};
-ghost use Rattle.wb_declared.specs.Declared.{declared_nodes};
+ghost use Rattle.wb_declared.specs.Declarations.{declared_nodes};
 ghost use Rattle.wb_diagram.specs.declared.commands.Action.TheVariants as a;
 ghost use Rattle.wb_nodes.specs.Nodes.{child};
 ghost use Rattle.wb_targets.specs.Targets.{is_unsynchronised};
@@ -10,6 +10,7 @@ ghost use Rattle.wb_session.specs.Tries.{node_path, path_of, shown, shown_by, sh
 ghost use Rattle.wb_session.specs.invariants.Keeping.{GoesOn, tried_of};
 
 use crate::entries::TriedState;
+use crate::marking::is_node;
 use crate::refusal::Refusal;
 use crate::session::Session;
 use std::alloc::{AllocError, Global};
@@ -54,7 +55,7 @@ impl<E: Evaluator> Session<E> {
     fn node_path<'a>(&self, key: &'a Key) -> Result<&'a [Pair], Refusal>
         ensures { Gives (λ path. path.now) (node_path E.outcome_by self.now key.now) result }
     {
-        if self.nodes().contains(key) {
+        if is_node(self.nodes(), key) {
             Ok(key.pairs.as_slice())
         } else {
             Err(Refusal::UnknownElement)

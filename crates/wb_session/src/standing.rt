@@ -1,5 +1,5 @@
 ghost use Rattle.std.specs.Prelude.{◌≡◌, IfOk};
-ghost use Rattle.wb_declared.specs.Declared.{declared_edges, declared_nodes};
+ghost use Rattle.wb_declared.specs.Declarations.{declared_edges, declared_nodes};
 ghost use Rattle.wb_marks.specs.Marks.{settled};
 ghost use Rattle.wb_refresh.specs.Openings.{IsOpened};
 ghost use Rattle.wb_spec_check.specs.Checked.{IsCheckedBy};

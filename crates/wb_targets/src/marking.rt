@@ -19,7 +19,7 @@ pub fn is_unsynchronised(spec: &CheckedViewpoint, mapping: u32) -> bool
 }
 
 /// The mapping to nodes, containers, lists or borders of this number.
-#[tactic(auto, unfolding(Rattle.wb_nodes.specs.Nodes.node_mapping))]
+#[tactic(auto, unfolding(wb_nodes::specs::Nodes::node_mapping))]
 pub(crate) fn node_mapping(spec: &CheckedViewpoint, number: u32) -> Option<&CheckedNode>
     ensures { option_copied result ≡ node_mapping spec.now number }
 {

@@ -1,9 +1,11 @@
-ghost use Rattle.std.specs.Prelude.{◌≡◌, ◌≤◌, length, position};
+ghost use Rattle.std.specs.Prelude.{◌≡◌, ◌<◌, ◌≤◌, length, position, IfSome};
 ghost use Rattle.wb_base.specs.Names.{same_name};
-ghost use Rattle.wb_spec_check.specs.Findings as found;
 ghost use Rattle.wb_viewpoint.specs.declared.filters.Filter.{Filter};
+ghost use Rattle.wb_viewpoint.specs.declared.layers.Layer.{Layer};
+ghost use Rattle.wb_viewpoint.specs.declared.mappings.Mapping.{Mapping};
 ghost use Rattle.wb_targets.specs.Targets.{additional_layer_named, beside_first, filter_named, mapping_named};
 
+use wb_json::Name;
 use wb_spec_check::CheckedViewpoint;
 use wb_viewpoint::{Filter, Layer, Mapping};
 
@@ -12,8 +14,8 @@ use wb_viewpoint::{Filter, Layer, Mapping};
 pub fn additional_layer_named(spec: &CheckedViewpoint, name: &str) -> Option<u32>
     ensures { result ≡ additional_layer_named spec.now name.now }
 {
-    let number = layer_at(layers_of(spec), name)?;
-    beside_first(number)
+    let found = number(layer_place(layers_of(spec), name))?;
+    beside_first(found)
 }
 
 /// The number of the filter of this name.
@@ -21,7 +23,7 @@ pub fn additional_layer_named(spec: &CheckedViewpoint, name: &str) -> Option<u32
 pub fn filter_named(spec: &CheckedViewpoint, name: &str) -> Option<u32>
     ensures { result ≡ filter_named spec.now name.now }
 {
-    filter_at(filters_of(spec), name)
+    number(filter_place(filters_of(spec), name))
 }
 
 /// The number of the mapping of this name.
@@ -29,7 +31,7 @@ pub fn filter_named(spec: &CheckedViewpoint, name: &str) -> Option<u32>
 pub fn mapping_named(spec: &CheckedViewpoint, name: &str) -> Option<u32>
     ensures { result ≡ mapping_named spec.now name.now }
 {
-    mapping_at(mappings_of(spec), name)
+    number(mapping_place(mappings_of(spec), name))
 }
 
 // A number other than that of the first.
@@ -60,33 +62,37 @@ fn mappings_of(spec: &CheckedViewpoint) -> &[Mapping]
     spec.viewpoint().content().mappings.as_slice()
 }
 
-// The place of the layer of this name.
-fn layer_at(layers: &[Layer], name: &str) -> Option<u32>
-    requires { length layers.now ≤ 64 }
-    ensures { result ≡ position (λ layer. same_name layer.name name.now) layers.now }
+fn layer_place(layers: &[Layer], name: &str) -> Option<usize>
+    ensures { result ≡ position (λ (it : Layer). same_name it.name name.now) layers.now }
 {
-    let place = layers
-        .iter()
-        .position(|layer| layer.name.as_str().as_bytes() == name.as_bytes())?;
-    Some(place as u32)
+    layers.iter().position(|layer| is_name(&layer.name, name))
 }
 
-fn filter_at(filters: &[Filter], name: &str) -> Option<u32>
-    requires { length filters.now ≤ 64 }
+fn filter_place(filters: &[Filter], name: &str) -> Option<usize>
     ensures { result ≡ position (λ (it : Filter). same_name it.name name.now) filters.now }
 {
-    let place = filters
-        .iter()
-        .position(|filter| filter.name.as_str().as_bytes() == name.as_bytes())?;
-    Some(place as u32)
+    filters.iter().position(|filter| is_name(&filter.name, name))
 }
 
-fn mapping_at(mappings: &[Mapping], name: &str) -> Option<u32>
-    requires { length mappings.now ≤ 256 }
-    ensures { result ≡ position (λ mapping. same_name mapping.name name.now) mappings.now }
+fn mapping_place(mappings: &[Mapping], name: &str) -> Option<usize>
+    ensures { result ≡ position (λ (it : Mapping). same_name it.name name.now) mappings.now }
 {
-    let place = mappings
-        .iter()
-        .position(|mapping| mapping.name.as_str().as_bytes() == name.as_bytes())?;
-    Some(place as u32)
+    mappings.iter().position(|mapping| is_name(&mapping.name, name))
+}
+
+fn is_name(name: &Name, text: &str) -> bool
+    ensures { result ≡ same_name name.now text.now }
+{
+    name.as_str().as_bytes() == text.as_bytes()
+}
+
+// A place among few, if one was found.
+fn number(place: Option<usize>) -> Option<u32>
+    requires { IfSome place (λ it. it < 256) }
+    ensures { result ≡ place }
+{
+    match place {
+        Some(place) => Some(place as u32),
+        None => None,
+    }
 }

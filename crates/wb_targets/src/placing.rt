@@ -67,7 +67,7 @@ fn is_listed_by(spec: &CheckedViewpoint, own: Pair, parent: Pair) -> bool
 fn lists(child: u32, node: &CheckedNode) -> bool
     ensures { result ≡ lists child node.now }
 {
-    is_list(node.kind) && node.children.as_slice().iter().any(|known| child == *known)
+    is_list(node.kind) && node.children.as_slice().contains(&child)
 }
 
 fn is_list(kind: NodeKind) -> bool

@@ -1,4 +1,4 @@
-use Rattle.wb_declared.proofs.Standing.{marked_itself}
+use Rattle.wb_declared.proofs.OneKey.{marked_itself}
 use Rattle.wb_declared.proofs.laws.unsynchronised_elements_are_marked.Goals as goal
 
 pub returns : goal.returns

@@ -1,5 +1,5 @@
 use Rattle.std.proofs.Common.{◌≡◌, filter, take}
-use Rattle.wb_marks.specs.SameKeys.{among}
+use Rattle.wb_answers.specs.SameKeys.{among}
 use Rattle.wb_marks.proofs.settling.kept_nodes.Given as goal
 
 abbrev pub invariant-loop-key : goal.invariant-loop-key

@@ -20,7 +20,7 @@ use Rattle.wb_nodes.proofs.NodeLaws.{nodes_are_paths}
 use Rattle.wb_refresh.specs.Openings.{IsOpened, Kept}
 use Rattle.wb_refresh.specs.Outcomes.{Gives, told}
 use Rattle.wb_refresh.specs.Subjects.{Setting, Subject, scene, subject_in}
-use Rattle.wb_declared.specs.Declared.{declared_nodes}
+use Rattle.wb_declared.specs.Declarations.{declared_nodes}
 use Rattle.wb_declared.specs.Standing.{key_under, leads_to, may_stand, would_stand}
 use Rattle.wb_declared.proofs.Children.{among_children, declares}
 use Rattle.wb_declared.proofs.Marking.{AlsoMarks, marks_one_more}

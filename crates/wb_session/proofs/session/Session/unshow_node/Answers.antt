@@ -1,0 +1,10 @@
+use Rattle.std.proofs.Common.{◌≡◌, sym, subst}
+use Rattle.wb_session.specs.States.{AreLawful, State}
+use Rattle.wb_session.proofs.Lawful.{unshown_lawful}
+use Rattle.wb_session.proofs.session.Session.unshow_node.Goals as goal
+
+pub remarked-requires : goal.remarked-requires
+remarked-requires g c =
+    let i = c.self.inside in
+    subst (λ (s : State). AreLawful s.spec c.in_ok-marks.marks) c.self.view_is
+    (subst (AreLawful i.spec) (sym c.in_ok-marks.ensures) (unshown_lawful i.spec i.marks c.self.invariant.good.body.lawful c.args.node.now))
