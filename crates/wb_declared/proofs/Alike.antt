@@ -1,5 +1,5 @@
 -- Subjects with the same elements, edges, units and outcomes have diagrams of one size.
-use Rattle.std.proofs.Common.{◌≡◌, ◌+◌, ◌++◌, ◌||◌, List, length, map, refl, ap}
+use Rattle.std.proofs.Common.{◌≡◌, ◌+◌, ◌++◌, ◌||◌, length, map}
 use Rattle.std.specs.Prelude.{nat_lt}
 use Rattle.wb_diagram.specs.declared.units.Unit.{Unit as Place}
 use Rattle.wb_answers.specs.Seen.{Told}

@@ -1,6 +1,6 @@
 -- What is declared directly under a path, key by key.
-use Rattle.std.proofs.Common.{◌≡◌, ℕ, Bool, true, false, not, ◌&&◌, ◌||◌, nat_eq, List, [], ◌∷◌, ◌++◌, map, filter, Option, Some, None, refl, sym, ap, subst, ◌∙◌}
-use Rattle.std.specs.List.{flat_map, list_any}
+use Rattle.std.proofs.Common.{◌≡◌, ℕ, Bool, true, false, ◌&&◌, nat_eq, List, [], ◌∷◌, ◌++◌, map, filter, Option, Some, None, refl, sym, ap, subst, ◌∙◌}
+use Rattle.std.specs.List.{list_any}
 use Rattle.std.specs.Option.{option_map_or}
 use Rattle.std.specs.Cmp.Lexicographic.{pointwise}
 use Rattle.std.proofs.lemmas.Bool.{and_from, eqb-true}
@@ -14,7 +14,7 @@ use Rattle.wb_answers.proofs.SameKeyLaws.{key_equiv, pair_equiv}
 use Rattle.wb_nodes.specs.Nodes.{Scene, candidates_at, candidates_by, child, child_mappings, children, children_by, children_with, fits, is_declared, node_mapping, pair_of}
 use Rattle.wb_declared.specs.Standing.{key_under, may_stand}
 use Rattle.wb_declared.proofs.Lists.{any_filter, any_flat, any_implied, any_map, any_one}
-use Rattle.wb_declared.proofs.Tests.{last_first, or_none, second_first}
+use Rattle.wb_declared.proofs.Tests.{last_first, second_first}
 
 -- keys under one path are the same where their own pairs are
 same_under : (path : List Pair) (a b : Pair) → pointwise same_pair (path ++ a ∷ []) (path ++ b ∷ []) ≡ same_pair a b

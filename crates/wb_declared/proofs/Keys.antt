@@ -1,14 +1,12 @@
 -- Keys among keys.
-use Rattle.std.proofs.Common.{◌≡◌, Bool, true, false, ◌&&◌, List, [], ◌∷◌, ◌++◌, length, filter, refl, sym, ap, subst, ◌∙◌}
+use Rattle.std.proofs.Common.{◌≡◌, Bool, true, false, ◌&&◌, List, filter, refl, sym, ap, subst, ◌∙◌}
 use Rattle.std.specs.Prelude.{All, Contains}
 use Rattle.std.specs.List.{list_any}
-use Rattle.std.specs.Cmp.Lexicographic.{lists_equiv, pointwise}
 use Rattle.std.proofs.lemmas.List.Elements.{All-contains_itself, All-weaker}
 use Rattle.std.proofs.lemmas.List.Folds.{list_any_at}
 use Rattle.wb_diagram.specs.declared.keys.Key.{Key}
-use Rattle.wb_diagram.specs.declared.keys.Pair.{Pair}
-use Rattle.wb_answers.specs.SameKeys.{among, same_key, same_pair}
-use Rattle.wb_answers.proofs.SameKeyLaws.{key_equiv, key_is, key_symm, pair_equiv}
+use Rattle.wb_answers.specs.SameKeys.{among, same_key}
+use Rattle.wb_answers.proofs.SameKeyLaws.{key_equiv, key_is}
 use Rattle.wb_declared.proofs.Lists.{any_filter, any_one}
 
 is_among : (keys : List Key) (key : Key) → Contains keys key → among keys key ≡ true

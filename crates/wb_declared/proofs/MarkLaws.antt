@@ -1,7 +1,7 @@
 -- What is declared does not look at the marks of what is not declared.
-use Rattle.std.proofs.Common.{◌≡◌, ℕ, zero, suc, Bool, true, false, ◌&&◌, ◌||◌, List, [], ◌∷◌, ◌++◌, filter, Option, Some, None, refl, sym, ap, subst, ◌∙◌}
+use Rattle.std.proofs.Common.{◌≡◌, ℕ, zero, suc, Bool, true, false, ◌||◌, List, [], ◌∷◌, ◌++◌, filter, Option, Some, None, refl, sym, ap, ◌∙◌}
 use Rattle.std.specs.Prelude.{All}
-use Rattle.std.specs.List.{flat_map, list_any}
+use Rattle.std.specs.List.{flat_map}
 use Rattle.std.specs.Option.{option_map_or}
 use Rattle.std.proofs.lemmas.Bool.{and_from, and_parts}
 use Rattle.std.proofs.lemmas.List.Elements.{All-cons, All-head, All-tail, All-weaker, filter_passes}
@@ -10,11 +10,11 @@ use Rattle.wb_diagram.specs.declared.keys.Key.{Key}
 use Rattle.wb_diagram.specs.declared.keys.Pair.{Pair}
 use Rattle.wb_spec_check.specs.Checked.{Specification}
 use Rattle.wb_spec_check.specs.declared.checked_mappings.CheckedNode.{CheckedNode}
-use Rattle.wb_answers.specs.SameKeys.{among, same_key}
+use Rattle.wb_answers.specs.SameKeys.{among}
 use Rattle.wb_answers.specs.Seen.{Told}
 use Rattle.wb_nodes.specs.Nodes.{Scene, below, candidates_by, child_mappings, children, children_by, children_with, is_declared, is_shown, node_mapping, node_units, nodes, passes, scene_of, units_by, units_under}
 use Rattle.wb_edges.specs.Edges.{edge_units, edges, scene_of as among_nodes}
-use Rattle.wb_refresh.specs.Diagrams.{edges_of, units_of}
+use Rattle.wb_refresh.specs.Diagrams.{units_of}
 use Rattle.wb_refresh.specs.Outcomes.{Gives, told}
 use Rattle.wb_refresh.specs.Subjects.{Setting, subject_in}
 use Rattle.wb_declared.specs.Declarations.{DeclaresAlike, declared_nodes}

@@ -1,6 +1,5 @@
 -- What is declared does not look at the number that the next object gets.
-use Rattle.std.proofs.Common.{◌≡◌, ℕ, zero, suc, List, [], ◌∷◌, ◌++◌, ◌||◌, length, map, refl, sym, ap, ◌∙◌}
-use Rattle.std.specs.Prelude.{nat_lt}
+use Rattle.std.proofs.Common.{◌≡◌, ℕ, zero, suc, List, [], ◌∷◌, ◌++◌, refl, ap, ◌∙◌}
 use Rattle.std.specs.List.{flat_map}
 use Rattle.std.specs.Option.{option_map_or}
 use Rattle.wb_store.specs.Cells.{cell, content, tree_within}
@@ -9,7 +8,6 @@ use Rattle.wb_store.specs.declared.scalars.Cell.{Cell}
 use Rattle.wb_store.specs.declared.scalars.Cell.TheVariants.{Kind, Slot, Holder, Tree, Inverse, Extent, Roots}
 use Rattle.wb_aql_eval.specs.ReadCells.{Alike}
 use Rattle.wb_aql_eval.specs.declared.env.Env.{Env}
-use Rattle.wb_aql_eval.specs.declared.env.Outcome.{Outcome}
 use Rattle.wb_diagram.specs.declared.keys.Key.{Key}
 use Rattle.wb_diagram.specs.declared.keys.Pair.{Pair}
 use Rattle.wb_diagram.specs.declared.units.Unit.{Unit as Place}
@@ -18,12 +16,10 @@ use Rattle.wb_spec_check.specs.Units.{Expression, expression_of}
 use Rattle.wb_answers.specs.Seen.{Told}
 use Rattle.wb_nodes.specs.Nodes.{below, candidates_by, children, children_by, node_units, nodes, scene_of, units_by, units_under}
 use Rattle.wb_edges.specs.Edges.{edge_units, edges, edges_at, edges_by, semantic, scene_of as among_nodes, units_at as edge_units_at, units_by as edge_units_by}
-use Rattle.wb_refresh.specs.Diagrams.{edges_of, size_of, units_of}
-use Rattle.wb_refresh.specs.Openings.{is_too_large}
+use Rattle.wb_refresh.specs.Diagrams.{edges_of, units_of}
 use Rattle.wb_refresh.specs.Outcomes.{Gives, ended, nothing, outcome, outcome_by, told}
 use Rattle.wb_refresh.specs.Subjects.{Setting, Subject, scene, setting}
-use Rattle.wb_refresh.specs.Weights.{is_over}
-use Rattle.wb_declared.specs.Declarations.{DeclaresAlike, declared_edges, declared_nodes, renumbered}
+use Rattle.wb_declared.specs.Declarations.{DeclaresAlike, renumbered}
 use Rattle.wb_declared.proofs.Alike.{alike_parts, units_alike}
 
 -- ---- cells

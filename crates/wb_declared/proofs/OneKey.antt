@@ -1,6 +1,5 @@
 -- What one key shows: whether it would be declared, and by whose mark it is.
-use Rattle.std.proofs.Common.{◌≡◌, ℕ, Bool, true, false, ◌&&◌, ◌||◌, nat_eq, List, [], ◌∷◌, ◌++◌, length, Option, Some, refl, sym, ap, subst, ◌∙◌, arith}
-use Rattle.std.specs.Prelude.{All}
+use Rattle.std.proofs.Common.{◌≡◌, Bool, true, false, ◌&&◌, ◌||◌, nat_eq, List, [], ◌∷◌, ◌++◌, length, Option, Some, sym, ap, subst, ◌∙◌, arith}
 use Rattle.std.specs.List.{list_any}
 use Rattle.std.specs.Option.{option_map_or}
 use Rattle.std.proofs.lemmas.Bool.{and_parts, false_from_ne_true}
@@ -13,9 +12,8 @@ use Rattle.wb_diagram.specs.declared.keys.Pair.{Pair}
 use Rattle.wb_spec_check.specs.declared.checked_mappings.CheckedNode.{CheckedNode}
 use Rattle.wb_answers.specs.Meanings.{objects_of}
 use Rattle.wb_answers.specs.SameKeys.{among, same_key}
-use Rattle.wb_answers.specs.Seen.{Told}
 use Rattle.wb_answers.proofs.SameKeyLaws.{key_is, key_symm, same_keys}
-use Rattle.wb_nodes.specs.Nodes.{candidates_at, children, fits, is_declared, is_shown, node_mapping, nodes, passes}
+use Rattle.wb_nodes.specs.Nodes.{candidates_at, children, fits, is_declared, is_shown, node_mapping, passes}
 use Rattle.wb_nodes.proofs.NodeLaws.{nodes_are_paths}
 use Rattle.wb_refresh.specs.Openings.{IsOpened, Kept}
 use Rattle.wb_refresh.specs.Outcomes.{Gives, told}
@@ -23,7 +21,7 @@ use Rattle.wb_refresh.specs.Subjects.{Setting, Subject, scene, subject_in}
 use Rattle.wb_declared.specs.Declarations.{declared_nodes}
 use Rattle.wb_declared.specs.Standing.{key_under, leads_to, may_stand, would_stand}
 use Rattle.wb_declared.proofs.Children.{among_children, declares}
-use Rattle.wb_declared.proofs.Marking.{AlsoMarks, marks_one_more}
+use Rattle.wb_declared.proofs.Marking.{marks_one_more}
 use Rattle.wb_declared.proofs.Paths.{among_key}
 use Rattle.wb_declared.proofs.Recorded.{would_stand_is}
 

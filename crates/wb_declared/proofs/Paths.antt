@@ -1,10 +1,9 @@
 -- Declared elements, key by key: an element is declared where what it stands in is, and it is declared directly there.
-use Rattle.std.proofs.Common.{◌≡◌, ◌+◌, ◌<◌, ◌≤◌, ℕ, zero, suc, Bool, true, false, ◌&&◌, ◌||◌, List, [], ◌∷◌, ◌++◌, length, take, refl, sym, ap, subst, ◌∙◌, arith, append_assoc, length-append}
+use Rattle.std.proofs.Common.{◌≡◌, ◌+◌, ◌≤◌, ℕ, zero, suc, Bool, true, false, ◌&&◌, ◌||◌, List, [], ◌∷◌, ◌++◌, length, take, refl, sym, ap, subst, ◌∙◌, arith, append_assoc, length-append}
 use Rattle.std.specs.Prelude.{All}
-use Rattle.std.specs.List.{flat_map, list_any}
 use Rattle.std.proofs.lemmas.Bool.{false_from_ne_true, false≢true}
 use Rattle.std.proofs.lemmas.List.{take_at}
-use Rattle.std.proofs.lemmas.List.Elements.{All-cons, All-head, All-nil, All-tail, All-weaker}
+use Rattle.std.proofs.lemmas.List.Elements.{All-cons, All-nil, All-weaker}
 use Rattle.std.proofs.lemmas.List.Folds.{list_any_none}
 use Rattle.wb_diagram.specs.declared.keys.Key.{Key}
 use Rattle.wb_diagram.specs.declared.keys.Pair.{Pair}
@@ -15,7 +14,7 @@ use Rattle.wb_nodes.specs.Nodes.{Scene, below, children, nodes, pair_of}
 use Rattle.wb_nodes.proofs.NodeLaws.{IsUnder, children_are_under}
 use Rattle.wb_declared.specs.Standing.{key_under, leads_to}
 use Rattle.wb_declared.proofs.Lists.{all_flat, any_alike, any_flat, any_one}
-use Rattle.wb_declared.proofs.Tests.{and_assoc, none_first, or_none}
+use Rattle.wb_declared.proofs.Tests.{and_assoc, or_none}
 
 -- ---- keys that begin with a path
 

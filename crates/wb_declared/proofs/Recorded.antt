@@ -1,5 +1,5 @@
 -- What is recorded of an opened diagram tells whether a key would be declared.
-use Rattle.std.proofs.Common.{◌≡◌, ℕ, Bool, true, false, ◌&&◌, ◌||◌, nat_eq, List, [], ◌∷◌, ◌++◌, Option, Some, None, refl, sym, ap, subst, ◌∙◌, if◌then◌else◌}
+use Rattle.std.proofs.Common.{◌≡◌, ℕ, Bool, true, false, ◌&&◌, ◌||◌, nat_eq, List, [], ◌∷◌, Option, Some, None, refl, sym, ap, subst, ◌∙◌, if◌then◌else◌}
 use Rattle.std.specs.Prelude.{option_map}
 use Rattle.std.specs.List.{flat_map, list_any}
 use Rattle.std.specs.Option.{option_map_or}
@@ -24,7 +24,7 @@ use Rattle.wb_refresh.specs.Outcomes.{Gives, outcome, told}
 use Rattle.wb_refresh.specs.SameUnits.{same_unit}
 use Rattle.wb_refresh.specs.Subjects.{Setting, Subject, scene, subject_in}
 use Rattle.wb_declared.specs.Declarations.{declared_nodes}
-use Rattle.wb_declared.specs.Standing.{fits_under, gives_object, gives_true, is_admitted, key_under, leads_to, may_stand, meets, would_stand}
+use Rattle.wb_declared.specs.Standing.{fits_under, gives_true, is_admitted, key_under, leads_to, may_stand, meets, would_stand}
 use Rattle.wb_declared.proofs.Children.{among_candidates}
 use Rattle.wb_declared.proofs.Lists.{any_flat, any_implied}
 use Rattle.wb_declared.proofs.Marking.{AlsoMarks, admits, among_marked, may_be}
