@@ -29,6 +29,25 @@ class Edge(NamedTuple):
     target: tuple
 
 
+class View(NamedTuple):
+    """What a state has beside its model: the root element, the names of the active additional layers and of the active filters, the
+    elements that are marked shown, the elements and edges that are marked hidden, the positions by element, and the revision."""
+    root: int
+    layers: frozenset
+    filters: frozenset = frozenset()
+    shown: frozenset = frozenset()
+    hidden: frozenset = frozenset()
+    positions: dict = {}
+    revision: int = 0
+
+
+def opened(metamodel, diagram, model):
+    """The view of an opened model, or none where no root is of the domain class: nothing is marked, hidden or placed, no filter is active."""
+    root = next((o for o in model.roots if metamodel.conforms(model.kinds[o], diagram["domain"])), None)
+    active = frozenset(layer["name"] for layer in diagram["layers"][1:] if layer.get("active", False))
+    return None if root is None else View(root, active)
+
+
 # ---- keys: that of an element is its pairs (mapping, object) from the top; that of the diagram has none
 
 def pair_of(key):
@@ -74,26 +93,27 @@ def first_places(objects):
 # ---- the diagram
 
 class Diagram:
-    """All that a viewpoint declares for a model. No element was shown by hand, none hidden, and no filter is active."""
+    """All that a viewpoint declares for a model and a view of it."""
 
-    def __init__(self, metamodel, diagram, model):
-        self.metamodel, self.model, self.layers, self.mappings = metamodel, model, diagram["layers"], diagram["mappings"]
-        self.root = next(o for o in model.roots if metamodel.conforms(model.kinds[o], diagram["domain"]))
+    def __init__(self, metamodel, diagram, model, view):
+        self.metamodel, self.model, self.view, self.layers, self.mappings = metamodel, model, view, diagram["layers"], diagram["mappings"]
+        self.filters = diagram.get("filters", [])
+        self.root = view.root
         self.units, self.weight, self.problems = [], 0, []
         self.top = self.numbers(diagram["top"])
-        self.elements, self.edges = [], {}
+        self.elements, self.edges, self.passing, self.filtered = [], {}, set(), set()
         self.declare_below(DIAGRAM)
         for number, mapping in enumerate(self.mappings):
             if mapping["kind"] in ("edge", "object-edge"):
                 self.declare_edges(number, mapping)
         self.looks = {key: self.look(key) for key in [*self.elements, *self.edges]}
-        for number, one in enumerate(diagram.get("filters", [])):
+        for number, one in enumerate(self.filters):
             self.ask_filter(number, one)
         self.visible = {}
         for key in self.elements:
-            self.visible[key] = self.is_on_active_layer(key) and (len(key) == 1 or self.visible[key[:-1]])
+            self.visible[key] = self.is_let_through(key) and (len(key) == 1 or self.visible[key[:-1]])
         for edge in self.edges:
-            self.visible[edge] = self.is_on_active_layer(edge) and self.visible[edge.source] and self.visible[edge.target]
+            self.visible[edge] = self.is_let_through(edge) and self.visible[edge.source] and self.visible[edge.target]
 
     def numbers(self, names):
         """Mappings by their names: of two mappings of one name the first is meant."""
@@ -160,6 +180,7 @@ class Diagram:
         return [key for key in keys if not self.is_cut(key)]
 
     def children(self, parent):
+        """The elements below a parent. Those that pass and are not marked shown in an unsynchronised mapping are only noted as passing."""
         o = self.root if parent == DIAGRAM else parent[-1][1]
         found = []
         for number in self.child_mappings(parent):
@@ -167,7 +188,9 @@ class Diagram:
             for key in self.candidates(number, parent, o):
                 condition = mapping.get("precondition")
                 passes = condition is None or self.yes(f"precondition {written(key)}", condition, key[-1][1], o)
-                if passes and mapping.get("synchronised", True):
+                if passes:
+                    self.passing.add(key)
+                if passes and (mapping.get("synchronised", True) or key in self.view.shown):
                     found.append(key)
         return found
 
@@ -236,14 +259,16 @@ class Diagram:
         mappings = self.numbers(one["mappings"])
         for key in [*self.elements, *self.edges]:
             if pair_of(key)[0] in mappings:
-                self.yes(f"filter {number} {written(key)}", one["hides"], pair_of(key)[1])
-
-    def is_active(self, layer):
-        return layer == 0 or self.layers[layer].get("active", False)
+                if self.yes(f"filter {number} {written(key)}", one["hides"], pair_of(key)[1]) and one["name"] in self.view.filters:
+                    self.filtered.add(key)
 
     def is_on_active_layer(self, key):
-        names = [layer["name"] for layer in self.layers]
-        return self.is_active(names.index(self.mappings[pair_of(key)[0]].get("layer", names[0])))
+        layer = self.mappings[pair_of(key)[0]].get("layer")
+        return layer in (None, self.layers[0]["name"]) or layer in self.view.layers
+
+    def is_let_through(self, key):
+        """By layers, filters and marks: all but what lies around it or at its ends."""
+        return self.is_on_active_layer(key) and key not in self.filtered and key not in self.view.hidden
 
     # ---- what is printed
 
@@ -252,24 +277,31 @@ class Diagram:
         own = {"key": written(key), "mapping": self.mappings[number]["name"], "object": o, **self.looks[key]}
         if isinstance(key, Edge):
             return {**own, "source": written(key.source), "target": written(key.target)}
-        return {**own, "parent": written(key[:-1]) if len(key) > 1 else None, "position": None}
+        position = list(self.view.positions[key]) if key in self.view.positions else None
+        return {**own, "parent": written(key[:-1]) if len(key) > 1 else None, "position": position}
 
     def picture(self):
         return {
             "edges": [self.shown(edge) for edge in self.edges if self.visible[edge]],
             "elements": [self.shown(key) for key in self.elements if self.visible[key]],
-            "filters": [],
-            "layers": [layer["name"] for place, layer in enumerate(self.layers) if place > 0 and self.is_active(place)],
+            "filters": [one["name"] for one in self.filters if one["name"] in self.view.filters],
+            "layers": [layer["name"] for layer in self.layers[1:] if layer["name"] in self.view.layers],
             "problems": self.problems,
-            "revision": 0,
+            "revision": self.view.revision,
         }
 
 
 def diagram_of(metamodel, viewpoint, model):
-    """The diagram of three files, or none where it is too large."""
+    """The diagram of three files as they are opened, or none where it is too large."""
     metamodel = evaluations.Metamodel(metamodel)
+    model = evaluations.Model(metamodel, model)
+    return diagram_in(metamodel, viewpoint["diagram"], model, opened(metamodel, viewpoint["diagram"], model))
+
+
+def diagram_in(metamodel, diagram, model, view):
+    """The diagram of a model and a view, or none where it is too large."""
     try:
-        return Diagram(metamodel, viewpoint["diagram"], evaluations.Model(metamodel, model))
+        return Diagram(metamodel, diagram, model, view)
     except TooLarge:
         return None
 
@@ -278,7 +310,8 @@ def facts_of(diagram):
     """What a case may say of a diagram. Keys and looks are those that are served; counts and units are those of all that is declared."""
     picture = diagram.picture()
     shown = picture["elements"] + picture["edges"]
-    facts = {name: picture[name] for name in ("layers", "problems")}
+    facts = {name: picture[name] for name in ("revision", "filters", "layers", "problems")}
+    facts["positions"] = {one["key"]: one["position"] for one in picture["elements"]}
     for sort in ("element", "edge"):
         facts[f"{sort}_keys"] = [one["key"] for one in picture[f"{sort}s"]]
         facts[f"{sort}_keys_of"] = {mapping["name"]: [one["key"] for one in picture[f"{sort}s"] if one["mapping"] == mapping["name"]]
@@ -302,11 +335,13 @@ def differing(wanted, diagram):
             yield f"{name} {json.dumps(found)} and not {json.dumps(value)}"
 
 
+def served(diagram):
+    return json.dumps(diagram.picture(), ensure_ascii=False, sort_keys=True, separators=(",", ":"))
+
+
 def printed(diagram):
     """The status, and what is printed."""
-    if diagram is None:
-        return 5, "diagram too large\n"
-    return 0, json.dumps(diagram.picture(), ensure_ascii=False, sort_keys=True, separators=(",", ":")) + "\n"
+    return (5, "diagram too large\n") if diagram is None else (0, served(diagram) + "\n")
 
 
 def main():

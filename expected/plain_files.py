@@ -151,6 +151,7 @@ def check_conditions(m, misshapen, places):
     features, stands = m.metamodel.features, set(m.links)
     own = {c: m.metamodel.features_of(c) for c in set(m.kinds.values())}
     contained = [(v[1], a) for a, f, v in m.links if features[f].containment]
+    holders = dict(contained)
     sizes = collections.Counter((o, f) for o, f, _ in m.links)
     shown_by = [
         lambda: [o for o in m.kinds if not 1 <= o < m.next],
@@ -161,7 +162,7 @@ def check_conditions(m, misshapen, places):
         lambda: [link[0] for link, times in collections.Counter(m.links).items() if times > 1],
         lambda: [o for o, f, v in m.links if features[f].opposite is not None and (v[1], features[f].opposite, ("Object", o)) not in stands],
         lambda: [o for o, times in collections.Counter(o for o, _ in contained).items() if times > 1],
-        lambda: [o for o in m.kinds if is_within_itself(o, dict(contained))]]
+        lambda: [o for o in m.kinds if is_within_itself(o, holders)]]
     if m.next == 0:
         refuse("Broken1", "next")
     for number, objects in enumerate(shown_by, 1):

@@ -194,15 +194,26 @@ class Model:
     # ---- texts
 
     def row(self, o):
+        return self.row_of(o, [link for link in self.links if link[0] == o])
+
+    def row_of(self, o, links):
+        """The class and the slots of an object, whose links these are."""
         slots = {}
-        for f in self.metamodel.features_of(self.kinds[o]):
-            values = [self.metamodel.enums[v[1]][v[2]] if v[0] == "Enum" else v[1] for v in self.slot(o, f)]
-            if values:
-                slots[self.feature(f).name] = values if self.feature(f).many else values[0]
-        return {"class": self.metamodel.classes[self.kinds[o]]["name"], "slots": slots}
+        for _, f, v in links:
+            slots.setdefault(self.feature(f).name, []).append(self.metamodel.enums[v[1]][v[2]] if v[0] == "Enum" else v[1])
+        many = {self.feature(f).name for _, f, _ in links if self.feature(f).many}
+        return {"class": self.metamodel.classes[self.kinds[o]]["name"],
+                "slots": {name: values if name in many else values[0] for name, values in slots.items()}}
+
+    def told(self):
+        """The model as a value of JSON."""
+        links = {o: [] for o in self.kinds}
+        for link in self.links:
+            links[link[0]].append(link)
+        return {"next": self.next, "objects": [{"id": o, **self.row_of(o, links[o])} for o in sorted(self.kinds)], "roots": self.roots}
 
     def text(self):
-        return written({"next": self.next, "objects": [{"id": o, **self.row(o)} for o in sorted(self.kinds)], "roots": self.roots})
+        return written(self.told())
 
 
 def written(value):

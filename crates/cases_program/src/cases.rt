@@ -1,6 +1,7 @@
 //! The cases of a file, each an object of JSON: its name, its words, its files and the numbers of the calls of shelf and sink that fail.
-use crate::files::{file_in, file_of};
+use crate::files::file_of;
 use crate::runs::push_run;
+use cases_files::needed_file;
 use std::alloc::Global;
 use wb_base::{List, Text};
 use wb_json::{Value, Wrong, list_or_empty, needed, parse_json};
@@ -13,7 +14,7 @@ pub fn push_cases<H: Shelf>(
     shown: &mut String,
     name: &[u8],
 ) -> Result<(), Wrong> {
-    let bytes = file_in(alloc, from, name)?;
+    let bytes = needed_file(alloc, from, name)?;
     match parse_json(alloc, bytes.as_slice())? {
         Some(cases) => push_each(alloc, from, shown, &cases),
         None => Err(Wrong::here(alloc)),
