@@ -124,11 +124,11 @@ front_whole bytes front has whole =
     let rest = drop front.head.body (drop front.end bytes) in
     let kept = has.judged.2 in
     let same : request_at bytes front ≡ request_of has.judged.0 body =
-        ap (λ (method : List ℕ). record { method = method; target = span_bytes (take front.end bytes) front.head.target; body = body; close = front.head.close }) kept.method
-        ∙ ap (λ (target : List ℕ). record { method = has.judged.0.method; target = target; body = body; close = front.head.close }) kept.target
-        ∙ ap (λ (close : Bool). record { method = has.judged.0.method; target = has.judged.0.target; body = body; close = close }) kept.close in
+    ap (λ (method : List ℕ). record { method = method; target = span_bytes (take front.end bytes) front.head.target; body = body; close = front.head.close }) kept.method
+    ∙ ap (λ (target : List ℕ). record { method = has.judged.0.method; target = target; body = body; close = front.head.close }) kept.target
+    ∙ ap (λ (close : Bool). record { method = has.judged.0.method; target = has.judged.0.target; body = body; close = close }) kept.close in
     let all : Whole (request_at bytes front) (drop (front.end + front.head.body) bytes) ≡ Whole (request_of has.judged.0 body) rest =
-        ap (λ q. Whole q (drop (front.end + front.head.body) bytes)) same ∙ ap (Whole (request_of has.judged.0 body)) (sym (drop-drop front.head.body front.end bytes)) in
+    ap (λ q. Whole q (drop (front.end + front.head.body) bytes)) same ∙ ap (Whole (request_of has.judged.0 body)) (sym (drop-drop front.head.body front.end bytes)) in
     takes_front bytes front _ has (all ∙ sym (ap (λ b. cond b Short (Whole (request_of has.judged.0 body) rest)) (le-ltb (length (drop front.end bytes)) front.head.body enough)))
 
 -- the door ended the call in bytes that are less than a request
