@@ -1,5 +1,5 @@
 -- Heads are judged by their lines first, and then by the grammar.
-use Rattle.std.proofs.Common.{◌≡◌, ◌≤◌, refl, sym, subst, ℕ, Bool, true, false, List, Result, Ok, Err, nat_lt, arith}
+use Rattle.std.proofs.Common.{◌≡◌, ◌≤◌, sym, subst, ℕ, false, List, Result, Ok, Err, nat_lt, arith}
 use Rattle.std.proofs.lemmas.Bool.Decides.{nat_tests}
 use Rattle.wb_http.specs.declared.refusals.HttpRefusal.{HttpRefusal}
 use Rattle.wb_http.specs.declared.heads.Head.{Head}
