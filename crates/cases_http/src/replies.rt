@@ -3,9 +3,7 @@ use std::alloc::{AllocError, Global};
 use wb_http::{FixedReply, keeper_reply, no_memory_reply, write_response};
 
 /// Each status that has a phrase here.
-const STATUSES: [u16; 12] = [
-    200, 400, 404, 405, 409, 411, 413, 422, 431, 501, 503, 507,
-];
+const STATUSES: [u16; 12] = [200, 400, 404, 405, 409, 411, 413, 422, 431, 501, 503, 507];
 
 /// Those that are no refusal of a head or a length.
 const FIXED: [FixedReply; 7] = [

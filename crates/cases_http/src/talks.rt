@@ -3,7 +3,9 @@ ghost use Rattle.std.specs.Prelude.{◌≡◌, ◌<◌, Some};
 ghost use Rattle.wb_outer.specs.declared.door.Next.{Next};
 
 use std::alloc::{AllocError, Global};
-use wb_http::{FixedReply, Held, Request, RequestEnd, Route, RouteRefusal, find_route, read_request};
+use wb_http::{
+    FixedReply, Held, Request, RequestEnd, Route, RouteRefusal, find_route, read_request,
+};
 use wb_outer::{Bytes, Door, Next, SureDoor};
 
 /// So many bytes stand in each piece.
@@ -28,7 +30,14 @@ fn push_route(alloc: Global, shown: &mut String, request: &Request) -> Result<()
 
 fn push_request(alloc: Global, shown: &mut String, request: &Request) -> Result<(), AllocError> {
     let body = as_text(request.body.as_slice());
-    write!(shown, "{} {} {} [{}] ", request.method.as_str(), as_text(request.target.as_slice()), request.close, body)?;
+    write!(
+        shown,
+        "{} {} {} [{}] ",
+        request.method.as_str(),
+        as_text(request.target.as_slice()),
+        request.close,
+        body
+    )?;
     push_route(alloc, shown, request)
 }
 
@@ -75,7 +84,7 @@ fn push_turns<D: Door>(
     requires { (D.told door.old).last ≡ Some Next.Line }
 {
     held.clear();
-    for _ in 0..20u8 {
+    'turns: for _ in 0..20u8 {
         if !push_turn(alloc, shown, door, held)? {
             return Ok(());
         }
@@ -94,12 +103,7 @@ fn pieces(alloc: Global, bytes: &[u8], size: usize) -> Result<Vec<Bytes>, AllocE
 }
 
 /// What is read of a connection in pieces of this size.
-fn talk(
-    alloc: Global,
-    held: &mut Held,
-    bytes: &[u8],
-    size: usize,
-) -> Result<String, AllocError>
+fn talk(alloc: Global, held: &mut Held, bytes: &[u8], size: usize) -> Result<String, AllocError>
     requires { 0 < size }
 {
     let mut lines = Vec::new(alloc);
@@ -124,7 +128,11 @@ pub fn push(
     for size in SIZES {
         if size > 1 || bytes.len() < 2000 {
             let cut = talk(alloc, held, bytes, size)?;
-            let told = if cut.as_str() == whole.as_str() { "same\n" } else { "other\n" };
+            let told = if cut.as_str() == whole.as_str() {
+                "same\n"
+            } else {
+                "other\n"
+            };
             shown.push_str(told)?;
         }
     }

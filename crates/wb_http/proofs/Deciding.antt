@@ -1,14 +1,13 @@
 -- What is decided stays decided, whatever bytes follow; bytes have one answer; less than a request is short.
-use Rattle.std.proofs.Common.{◌≡◌, refl, ◌∙◌, sym, ap, subst, ℕ, ◌+◌, ◌-◌, ◌<◌, ◌≤◌, ◌⊎◌, inl, inr, Bool, true, false, cond, nat_lt, List, [], ◌∷◌, ◌++◌, length, take, drop, Option, None, Some, Result, Ok, Err, length-drop, length-append, arith}
+use Rattle.std.proofs.Common.{◌≡◌, refl, ◌∙◌, sym, ap, subst, ℕ, ◌+◌, ◌-◌, ◌<◌, ◌≤◌, inl, inr, Bool, true, false, cond, nat_lt, List, [], ◌++◌, length, take, drop, Option, None, Some, Result, Ok, Err, length-drop, length-append, arith}
 use Rattle.std.proofs.lemmas.List.{take-append-le, drop-append-le}
-use Rattle.std.proofs.lemmas.Bool.{ltb-true, ltb-false, lt-ltb, le-ltb}
+use Rattle.std.proofs.lemmas.Bool.{ltb-true, ltb-false, le-ltb}
 use Rattle.httparse.specs.Grammar.{RequestHead}
 use Rattle.httparse.proofs.GrammarLemmas.{request_unique}
 use Rattle.wb_http.specs.declared.refusals.HttpRefusal.{HttpRefusal}
-use Rattle.wb_http.specs.declared.refusals.HttpRefusal.TheVariants.{HeadTooLarge, BadHead}
-use Rattle.wb_http.specs.declared.requests.Request.{Request}
+use Rattle.wb_http.specs.declared.refusals.HttpRefusal.TheVariants.{HeadTooLarge}
 use Rattle.wb_http.specs.Ends.{head_length, lines_of}
-use Rattle.wb_http.specs.Requests.{head_limit, line_limit, body_limit, IsHead, announced, request_of, with_body, Taken, Whole, Bad, Short, Judges, JudgesLines, TakesAt, Takes}
+use Rattle.wb_http.specs.Requests.{head_limit, line_limit, body_limit, announced, request_of, with_body, Taken, Whole, Bad, Short, JudgesLines, TakesAt, Takes}
 use Rattle.wb_http.specs.Fronts.{request_limit}
 use Rattle.wb_http.specs.Laws.{IsDecided, with_more}
 use Rattle.wb_http.proofs.Staying.{front_stays, front_fits}

@@ -1,10 +1,9 @@
 -- The end of a head is found byte by byte.
-use Rattle.std.proofs.Common.{◌≡◌, refl, ◌∙◌, sym, ap, ℕ, ◌+◌, ◌<◌, ◌≤◌, ◌==◌, Bool, true, false, cond, List, [], ◌∷◌, ◌++◌, length, take, drop, get_or, Option, None, Some, option_map, append_assoc, append-nil, length-append, arith}
-use Rattle.std.specs.List.{count_by}
-use Rattle.std.proofs.lemmas.List.{take_more, take_all, take-append-drop, length-take-le, drop_more, drop_all}
+use Rattle.std.proofs.Common.{◌≡◌, refl, ◌∙◌, sym, ap, ℕ, ◌+◌, ◌<◌, ◌≤◌, List, [], ◌∷◌, ◌++◌, length, take, drop, get_or, Option, None, Some, option_map, append_assoc, append-nil, length-append, arith}
+use Rattle.std.proofs.lemmas.List.{take_more, take_all, take-append-drop, length-take-le}
 use Rattle.wb_http.specs.declared.ends.Mark.{Mark}
 use Rattle.wb_http.specs.declared.ends.Mark.TheVariants.{Blank, Text, Feed, FeedReturn}
-use Rattle.wb_http.specs.Ends.{head_length, to_empty_line, lines_of, still_of, still_after, one_more, Tells}
+use Rattle.wb_http.specs.Ends.{head_length, to_empty_line, still_of, still_after, one_more, Tells}
 
 -- the number of bytes before goes over one more byte
 onward : (n : ℕ) (m : ℕ) (found : Option ℕ) → m ≡ n + 1 → option_map (λ k. k + n) (one_more found) ≡ option_map (λ k. k + m) found

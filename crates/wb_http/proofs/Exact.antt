@@ -1,5 +1,5 @@
 -- What is read of the bytes that were read is what all bytes begin with.
-use Rattle.std.proofs.Common.{◌≡◌, refl, ◌∙◌, sym, ap, subst, ℕ, List, [], ◌++◌, Option, None, Some, IfSome, Result, Ok, Err, append_assoc, append-nil}
+use Rattle.std.proofs.Common.{◌≡◌, refl, ◌∙◌, sym, ap, subst, ℕ, List, ◌++◌, Option, None, Some, IfSome, Result, Ok, Err, append_assoc, append-nil}
 use Rattle.wb_outer.specs.Door.{DoorTold, ToCome}
 use Rattle.wb_http.specs.declared.requests.Request.{Request}
 use Rattle.wb_http.specs.declared.requests.RequestEnd.{RequestEnd}

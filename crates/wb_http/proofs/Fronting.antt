@@ -1,7 +1,7 @@
 -- What stands at the front of bytes says what they begin with.
-use Rattle.std.proofs.Common.{◌≡◌, refl, ◌∙◌, sym, ap, subst, ℕ, ◌+◌, ◌-◌, ◌<◌, ◌≤◌, ◌⊎◌, inl, inr, not, ◌==◌, Bool, true, false, cond, nat_lt, List, [], ◌∷◌, ◌++◌, length, take, drop, Option, None, Some, IfOk, IfErr, OnOk, OnErr, Result, Ok, Err, codes, min, length-drop, length-append, arith}
+use Rattle.std.proofs.Common.{◌≡◌, refl, ◌∙◌, sym, ap, subst, ℕ, ◌+◌, ◌-◌, ◌<◌, ◌≤◌, inl, not, ◌==◌, Bool, true, false, cond, nat_lt, List, [], ◌∷◌, ◌++◌, length, take, drop, Option, None, Some, IfOk, IfErr, OnOk, OnErr, Result, Ok, Err, codes, min, length-drop, arith}
 use Rattle.std.specs.Str.{IsUtf8, bytes_eq}
-use Rattle.std.proofs.lemmas.List.{take-append-le, drop-append-le, drop-drop, take_min}
+use Rattle.std.proofs.lemmas.List.{take-append-le, drop-drop, take_min}
 use Rattle.std.proofs.lemmas.List.Elements.{All-weaker}
 use Rattle.std.proofs.lemmas.Str.{IsUtf8-from_ascii}
 use Rattle.std.proofs.lemmas.Str.Ascii.{IsAscii-from_all}
@@ -12,7 +12,7 @@ use Rattle.httparse.specs.Spans.{span_bytes}
 use Rattle.wb_outer.specs.Door.{DoorTold}
 use Rattle.wb_http.specs.declared.heads.Head.{Head}
 use Rattle.wb_http.specs.declared.refusals.HttpRefusal.{HttpRefusal}
-use Rattle.wb_http.specs.declared.refusals.HttpRefusal.TheVariants.{HeadTooLarge, BadHead, NotImplemented, BadLength, LengthRequired, BodyTooLarge}
+use Rattle.wb_http.specs.declared.refusals.HttpRefusal.TheVariants.{HeadTooLarge, BadHead, NotImplemented, BodyTooLarge}
 use Rattle.wb_http.specs.declared.requests.Front.{Front}
 use Rattle.wb_http.specs.declared.requests.Request.{Request}
 use Rattle.wb_http.specs.declared.requests.RequestEnd.{RequestEnd}
@@ -20,7 +20,7 @@ use Rattle.wb_http.specs.declared.requests.RequestEnd.TheVariants as ends
 use Rattle.wb_http.specs.Ends.{head_length, lines_of, Tells}
 use Rattle.wb_http.specs.Fields.{length_of}
 use Rattle.wb_http.specs.Heads.{IsJudged, IsJudgedShort}
-use Rattle.wb_http.specs.Requests.{head_limit, body_limit, line_limit, IsHead, within_limit, length_by, breaks_host, values_in, announced, closes, request_of, with_body, Taken, Whole, Bad, Short, JudgesLines, JudgesHead, TakesAt, Takes}
+use Rattle.wb_http.specs.Requests.{head_limit, body_limit, line_limit, within_limit, length_by, breaks_host, values_in, announced, request_of, with_body, Taken, Whole, Bad, Short, JudgesLines, TakesAt, Takes}
 use Rattle.wb_http.specs.Fronts.{Fills, HasFront, IsDoorEnd, IsEnd, IsSeen, Misses, request_at, request_limit}
 use Rattle.wb_http.specs.declared.ends.Progress.{Progress}
 use Rattle.wb_http.specs.declared.ends.Mark.TheVariants.{Blank}
@@ -124,11 +124,11 @@ front_whole bytes front has whole =
     let rest = drop front.head.body (drop front.end bytes) in
     let kept = has.judged.2 in
     let same : request_at bytes front ≡ request_of has.judged.0 body =
-        ap (λ (method : List ℕ). record { method = method; target = span_bytes (take front.end bytes) front.head.target; body = body; close = front.head.close }) kept.method
-        ∙ ap (λ (target : List ℕ). record { method = has.judged.0.method; target = target; body = body; close = front.head.close }) kept.target
-        ∙ ap (λ (close : Bool). record { method = has.judged.0.method; target = has.judged.0.target; body = body; close = close }) kept.close in
+    ap (λ (method : List ℕ). record { method = method; target = span_bytes (take front.end bytes) front.head.target; body = body; close = front.head.close }) kept.method
+    ∙ ap (λ (target : List ℕ). record { method = has.judged.0.method; target = target; body = body; close = front.head.close }) kept.target
+    ∙ ap (λ (close : Bool). record { method = has.judged.0.method; target = has.judged.0.target; body = body; close = close }) kept.close in
     let all : Whole (request_at bytes front) (drop (front.end + front.head.body) bytes) ≡ Whole (request_of has.judged.0 body) rest =
-        ap (λ q. Whole q (drop (front.end + front.head.body) bytes)) same ∙ ap (Whole (request_of has.judged.0 body)) (sym (drop-drop front.head.body front.end bytes)) in
+    ap (λ q. Whole q (drop (front.end + front.head.body) bytes)) same ∙ ap (Whole (request_of has.judged.0 body)) (sym (drop-drop front.head.body front.end bytes)) in
     takes_front bytes front _ has (all ∙ sym (ap (λ b. cond b Short (Whole (request_of has.judged.0 body) rest)) (le-ltb (length (drop front.end bytes)) front.head.body enough)))
 
 -- the door ended the call in bytes that are less than a request

@@ -1,5 +1,5 @@
 -- Bytes that go from a connection to those held, one read after another.
-use Rattle.std.proofs.Common.{◌≡◌, refl, ◌∙◌, sym, ap, subst, ℕ, ◌+◌, ◌<◌, ◌≤◌, List, [], ◌∷◌, ◌++◌, length, take, drop, Option, None, Some, IfSome, append_assoc, append-nil, length-append, length-take, take-append-drop, arith}
+use Rattle.std.proofs.Common.{◌≡◌, refl, ◌∙◌, sym, ap, subst, ℕ, ◌+◌, ◌≤◌, List, [], ◌∷◌, ◌++◌, length, take, drop, Option, None, Some, IfSome, append_assoc, append-nil, take-append-drop, arith}
 use Rattle.std.specs.Bool.{⊤}
 use Rattle.std.proofs.Math.Seq.{take-append-add}
 use Rattle.std.proofs.lemmas.List.{take-append-le, length-take-le}
@@ -9,7 +9,7 @@ use Rattle.wb_outer.specs.declared.door.Got.TheVariants as got
 use Rattle.wb_outer.specs.Door.{Connection, DoorTold, ToCome, after_read, marked, change_at_hand, Reads, ReadsFrom, FitsRoom}
 use Rattle.wb_http.specs.declared.requests.RequestEnd.{RequestEnd}
 use Rattle.wb_http.specs.declared.requests.RequestEnd.TheVariants as ends
-use Rattle.wb_http.specs.Reading.{Gives, CameFrom, IsAtEnd, taken_after}
+use Rattle.wb_http.specs.Reading.{Gives, CameFrom, taken_after}
 use Rattle.wb_http.specs.Fronts.{Fills, ReadsBehind, read_of}
 
 after_read_none : (c : Connection) → after_read [] c ≡ c

@@ -1,19 +1,16 @@
 -- An element's target has its key behind nine bytes.
-use Rattle.std.proofs.Common.{◌≡◌, refl, sym, ap, subst, ℕ, ◌<◌, ◌≤◌, ◌+◌, ◌-◌, ◌&&◌, Bool, true, false, cond, List, [], ◌∷◌, ◌++◌, length, drop, take, Option, None, Some, Result, Ok, Err, codes, length-drop, arith}
+use Rattle.std.proofs.Common.{◌≡◌, refl, sym, ap, subst, ℕ, ◌≤◌, ◌-◌, ◌&&◌, Bool, true, false, cond, List, ◌++◌, length, drop, take, None, Some, Result, Err, codes, length-drop, arith}
 use Rattle.std.specs.Str.{IsUtf8, is_utf8, bytes_eq}
-use Rattle.std.specs.List.{starts_with}
-use Rattle.std.specs.Cmp.Lexicographic.{pointwise}
 use Rattle.std.proofs.lemmas.Slice.Eq.{starts_is}
 use Rattle.std.proofs.lemmas.Bool.Decides.{Decides-eqb}
 use Rattle.std.proofs.lemmas.Str.{IsUtf8-drop, IsCharBoundary-after_ascii, IsUtf8-from_is_utf8, is_utf8-from_IsUtf8}
-use Rattle.wb_http.specs.declared.routes.Target.{Target}
 use Rattle.wb_http.specs.declared.routes.Target.TheVariants.{Diagram, Element, Model, Command, Stop}
 use Rattle.wb_http.specs.declared.routes.Route.{Route}
 use Rattle.wb_http.specs.declared.routes.RouteRefusal.{RouteRefusal}
 use Rattle.wb_http.specs.declared.routes.RouteRefusal.TheVariants.{NotFound}
 use Rattle.wb_base.specs.Answering.{AsDefined}
 use Rattle.std.proofs.lemmas.List.{take_all}
-use Rattle.wb_http.specs.Routes.{is_key, is_element, kind_of, routed, route_of, refusal_of}
+use Rattle.wb_http.specs.Routes.{is_element, kind_of, routed, route_of, refusal_of}
 
 both_first : (u v : Bool) → (u && v) ≡ true → u ≡ true
 both_first true v is = refl

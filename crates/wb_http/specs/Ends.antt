@@ -1,5 +1,5 @@
 -- Where the head of a request ends, and how many lines it has.
-use Rattle.std.specs.Prelude.{◌≡◌, ℕ, ◌+◌, ◌==◌, ◌||◌, Bool, List, [], ◌∷◌, ◌++◌, take, length, count_by, Option, None, Some, option_map, if◌then◌else◌}
+use Rattle.std.specs.Prelude.{◌≡◌, ℕ, ◌+◌, ◌==◌, ◌||◌, Bool, List, [], ◌∷◌, ◌++◌, length, count_by, Option, None, Some, option_map, if◌then◌else◌}
 use Rattle.std.specs.Option.{option_or}
 use Rattle.wb_http.specs.declared.ends.Mark.{Mark}
 use Rattle.wb_http.specs.declared.ends.Mark.TheVariants.{Blank, Text, Feed, FeedReturn}

@@ -1,18 +1,17 @@
 -- What stands at the front of the bytes held, as reading goes on.
-use Rattle.std.specs.Prelude.{◌≡◌, ℕ, ◌+◌, ◌<◌, ◌≤◌, ⊤, false, List, ◌++◌, length, take, drop, nat_lt, Option, None, Some, Result, Ok, Err}
+use Rattle.std.specs.Prelude.{◌≡◌, ℕ, ◌+◌, ◌<◌, ◌≤◌, ⊤, false, List, ◌++◌, length, take, drop, nat_lt, Option, None, Some, Ok}
 use Rattle.httparse.specs.Spans.{span_bytes}
 use Rattle.wb_outer.specs.Door.{DoorTold, Reads}
 use Rattle.wb_outer.specs.declared.door.Got.{Got}
 use Rattle.wb_outer.specs.declared.door.Got.TheVariants as got
 use Rattle.wb_http.specs.declared.ends.Progress.{Progress}
-use Rattle.wb_http.specs.declared.heads.Head.{Head}
 use Rattle.wb_http.specs.declared.requests.Front.{Front}
 use Rattle.wb_http.specs.declared.requests.Request.{Request}
 use Rattle.wb_http.specs.declared.requests.RequestEnd.{RequestEnd}
 use Rattle.wb_http.specs.declared.requests.RequestEnd.TheVariants as ends
 use Rattle.wb_http.specs.Ends.{head_length, lines_of, Tells}
 use Rattle.wb_http.specs.Heads.{IsJudgedShort}
-use Rattle.wb_http.specs.Requests.{head_limit, line_limit, Taken, Bad, Short, Takes}
+use Rattle.wb_http.specs.Requests.{head_limit, line_limit, Bad, Short, Takes}
 use Rattle.wb_http.specs.Reading.{Gives}
 
 -- bytes that are less than a request are fewer than this

@@ -1,11 +1,11 @@
 -- What reading a request answers, and what it takes from the door.
-use Rattle.std.specs.Prelude.{◌≡◌, ℕ, ◌≤◌, ⊤, List, [], ◌∷◌, ◌++◌, Option, None, Some, IfSome, Result, Ok, Err}
+use Rattle.std.specs.Prelude.{◌≡◌, ℕ, ◌≤◌, ⊤, List, [], ◌++◌, Option, None, Some, IfSome, Result, Ok, Err}
 use Rattle.wb_outer.specs.Door.{Connection, DoorTold, ToCome, after_read, change_at_hand, marked}
 use Rattle.wb_outer.specs.Faults.{Rose}
 use Rattle.wb_http.specs.declared.requests.Request.{Request}
 use Rattle.wb_http.specs.declared.requests.RequestEnd.{RequestEnd}
 use Rattle.wb_http.specs.declared.requests.RequestEnd.TheVariants as ends
-use Rattle.wb_http.specs.Requests.{Taken, Whole, Bad, Short, Takes}
+use Rattle.wb_http.specs.Requests.{Whole, Bad, Short, Takes}
 
 -- how a call ended that gave no value
 abbrev pub end_of : {A : Type 0} → Result A RequestEnd → Option RequestEnd

@@ -1,10 +1,11 @@
 //! Whole heads: whether one is refused, and what it announces.
-ghost use Rattle.std.specs.Prelude.{◌≡◌, ◌≤◌, ◌==◌, not, All, IfSome, IfNone, length, codes};
+ghost use Rattle.std.specs.Prelude.{◌≡◌, ◌≤◌, ◌==◌, not, All, IfSome, IfNone, length, nat_lt, codes};
 ghost use Rattle.httparse.specs.Grammar.{RequestHead};
 ghost use Rattle.httparse.specs.Spans.{IsWithin, IsHeaderWithin, IsRequestWithin, IsRequestAt};
+ghost use Rattle.wb_http.specs.Ends.{lines_of};
 ghost use Rattle.wb_http.specs.Fields.{values, fields_at, length_of};
 ghost use Rattle.wb_http.specs.Heads.{Announces, Covers, IsJudged, IsJudgedShort};
-ghost use Rattle.wb_http.specs.Requests.{IsHead, length_by, within_limit};
+ghost use Rattle.wb_http.specs.Requests.{IsHead, length_by, line_limit, within_limit};
 
 use crate::ends::count_lines;
 use crate::fields::{Named, closes_connection, find_named, read_length};
@@ -119,11 +120,17 @@ fn judge_short(head: &[u8]) -> Result<Head, HttpRefusal>
     }
 }
 
+fn has_many_lines(head: &[u8]) -> bool
+    ensures { result ≡ nat_lt line_limit (lines_of head.now) }
+{
+    count_lines(head) > 66
+}
+
 /// What a head announces, or the first refusal that holds of it.
 pub(crate) fn judge(head: &[u8]) -> Result<Head, HttpRefusal>
     ensures { IsJudged head.now result }
 {
-    if count_lines(head) > 66 {
+    if has_many_lines(head) {
         return Err(HttpRefusal::HeadTooLarge);
     }
     judge_short(head)

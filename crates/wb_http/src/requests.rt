@@ -150,11 +150,7 @@ fn read_found<D: Door>(
 }
 
 // Judges a head, and reads its body.
-fn read_behind_head<D: Door>(
-    door: &mut D,
-    held: &mut Held,
-    end: usize,
-) -> Result<Front, RequestEnd>
+fn read_behind_head<D: Door>(door: &mut D, held: &mut Held, end: usize) -> Result<Front, RequestEnd>
     requires at_hand { (D.told door.old).last ≡ Some Next.Line }
     requires end { head_length (take head_limit held.old) ≡ Some end }
     ensures fills { Fills held.old held.new (D.told door.old) (D.told door.new) (end_of result) }

@@ -1,9 +1,6 @@
-use Rattle.std.proofs.Common.{◌≤◌, arith}
-use Rattle.wb_http.specs.Ends.{lines_of}
+use Rattle.std.proofs.Common.{sym, ◌∙◌}
 use Rattle.wb_http.proofs.Judging.{judged}
 use Rattle.wb_http.proofs.heads.judge.Goals as goal
 
 pub returns : goal.returns
-returns c =
-    let few : lines_of c.args.head.now ≤ 66 = omega (arith, c.if-count_lines-gt66.false, c.count_lines.ensures) in
-    judged c.args.head.now c.judge_short.result few c.judge_short.ensures
+returns c = judged c.args.head.now c.judge_short.result (sym c.has_many_lines.ensures ∙ c.if-has_many_lines.false) c.judge_short.ensures

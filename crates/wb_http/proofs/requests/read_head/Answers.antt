@@ -1,7 +1,7 @@
 use Rattle.std.proofs.Common.{◌≡◌, ◌<◌, ◌∙◌, subst, sym, ap, List, ℕ, length, take, None, Some, arith}
 use Rattle.wb_http.specs.Ends.{head_length}
 use Rattle.wb_http.specs.Requests.{head_limit, Takes, Short}
-use Rattle.wb_http.specs.Fronts.{IsSeen, IsEnd}
+use Rattle.wb_http.specs.Fronts.{IsEnd}
 use Rattle.wb_http.proofs.Moving.{fills_none, fills_on}
 use Rattle.wb_http.proofs.Fronting.{seen_none, seen_on, seen_at, takes_short}
 use Rattle.wb_http.proofs.requests.read_head.Goals as goal

@@ -1,4 +1,4 @@
-use Rattle.std.proofs.Common.{◌≡◌, refl, sym, ap, subst, ◌∙◌, ℕ, List, Some, length, take, vec_len, arith}
+use Rattle.std.proofs.Common.{◌≡◌, refl, sym, ap, subst, ◌∙◌, ℕ, List, Some, length, take, vec_len}
 use Rattle.std.proofs.lemmas.List.{with_items_is}
 use Rattle.wb_outer.specs.declared.door.Got.TheVariants as got
 use Rattle.wb_http.specs.declared.requests.RequestEnd.TheVariants as ends
