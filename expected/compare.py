@@ -4,18 +4,11 @@
     python3 expected/compare.py
 
 The words of such a program, in its `args`, are files in threes: a metamodel, a model, and a script of edits and looks or a file of
-<<<<<<< HEAD
 expressions. Or they are `.json` files of cases, of sessions where a case has `steps`, else of the whole program; or a `.bodies` file of
-bodies of commands. Its `stdout` is what the gate holds its output to.
+bodies of commands, or `.http` files of connections. Its `stdout` is what the gate holds its output to.
 """
 import glob, itertools, json, os, sys
-import commands, evaluations, models, program, sessions
-=======
-expressions. Or they are `.json` files of cases of the whole program, or `.http` files of connections. Its `stdout` is what the gate holds its output to.
-"""
-import glob, itertools, os, sys
-import evaluations, models, program, requests
->>>>>>> origin/http
+import commands, evaluations, models, program, requests, sessions
 
 TOP = os.path.dirname(os.path.dirname(os.path.abspath(__file__)))
 MAKERS = {".script": models.lines, ".expressions": evaluations.lines}
@@ -29,15 +22,11 @@ def of_cases(path):
 def made(folder, names):
     """The lines for all files of a program; none where it is of another kind."""
     if names and all(name.endswith(".json") for name in names):
-<<<<<<< HEAD
         return list(itertools.chain.from_iterable(of_cases(os.path.join(folder, "data", name)) for name in names))
     if names and all(name.endswith(".bodies") for name in names):
         return list(itertools.chain.from_iterable(commands.lines(os.path.join(folder, "data", name)) for name in names))
-=======
-        return list(itertools.chain.from_iterable(program.lines(os.path.join(folder, "data", name)) for name in names))
     if names and all(name.endswith(".http") for name in names):
         return list(itertools.chain.from_iterable(requests.lines(os.path.join(folder, "data", name)) for name in names))
->>>>>>> origin/http
     if len(names) % 3 or not names or {os.path.splitext(name)[1] for name in names[2::3]} - set(MAKERS):
         return None
     files = [os.path.join(folder, "data", name) for name in names]

@@ -71,25 +71,17 @@ fn layer_place(layers: &[Layer], name: &str) -> Option<usize>
 fn filter_place(filters: &[Filter], name: &str) -> Option<usize>
     ensures { result ≡ position (λ (it : Filter). same_name it.name name.now) filters.now }
 {
-<<<<<<< HEAD
-    filters.iter().position(|filter| is_name(&filter.name, name))
-=======
     filters
         .iter()
         .position(|filter| is_name(&filter.name, name))
->>>>>>> origin/draw
 }
 
 fn mapping_place(mappings: &[Mapping], name: &str) -> Option<usize>
     ensures { result ≡ position (λ (it : Mapping). same_name it.name name.now) mappings.now }
 {
-<<<<<<< HEAD
-    mappings.iter().position(|mapping| is_name(&mapping.name, name))
-=======
     mappings
         .iter()
         .position(|mapping| is_name(&mapping.name, name))
->>>>>>> origin/draw
 }
 
 fn is_name(name: &Name, text: &str) -> bool
