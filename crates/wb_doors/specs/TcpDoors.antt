@@ -35,19 +35,35 @@ Listens true old now new WriteFailed = ⊥
 Listens false old now new Done = (now ≡ true) × (new ≡ after_listen true old)
 Listens false old now new WriteFailed = (now ≡ false) × (new ≡ after_listen false old)
 
+-- no byte was given or taken
+abbrev pub IsQuiet : SocketsTold → SocketsTold → Type 0
+IsQuiet old new = (new.given ≡ old.given) × (new.took ≡ old.took)
+
+-- nobody was taken, and no byte was taken
+abbrev pub TakesNone : SocketsTold → SocketsTold → Type 0
+TakesNone old new = (new.peers ≡ old.peers) × (new.took ≡ old.took)
+
+-- nobody was taken, and no byte was given
+abbrev pub GivesNone : SocketsTold → SocketsTold → Type 0
+GivesNone old new = (new.peers ≡ old.peers) × (new.given ≡ old.given)
+
 -- one peer more was taken, or none for a cause; `Closed` never comes
 abbrev pub Accepts : SocketsTold → SocketsTold → Next → Type 0
-Accepts old new IsLine = new.peers ≡ old.peers + 1
+Accepts old new IsLine = (new.peers ≡ old.peers + 1) × IsQuiet old new
 Accepts old new Closed = ⊥
-Accepts old new NextFailed = (new.peers ≡ old.peers) × HasCause old new
+Accepts old new NextFailed = (new.peers ≡ old.peers) × IsQuiet old new × HasCause old new
 
 -- the bytes read are those that the sockets gave; `End` where a read of them answered so; a failed read took none
 abbrev pub ReadsThrough : SocketsTold → SocketsTold → List ℕ → Got → Type 0
-ReadsThrough old new room (GotBytes n) = new.given ≡ old.given ++ take n room
-ReadsThrough old new room End = (new.given ≡ old.given) × (old.ends < new.ends)
-ReadsThrough old new room GotFailed = (new.given ≡ old.given) × HasCause old new
+ReadsThrough old new room (GotBytes n) = (new.given ≡ old.given ++ take n room) × TakesNone old new
+ReadsThrough old new room End = (new.given ≡ old.given) × TakesNone old new × (old.ends < new.ends)
+ReadsThrough old new room GotFailed = (new.given ≡ old.given) × TakesNone old new × HasCause old new
+
+-- a front of the piece was written, and the connection is marked
+abbrev pub WritesFront : SocketsTold → SocketsTold → List Connection → List Connection → List ℕ → Type 0
+WritesFront old new cs cs' piece = (n : ℕ) × (new.took ≡ old.took ++ take n piece) × (cs' ≡ change_at_hand (λ c. marked (after_write (take n piece) c)) cs)
 
 -- the sockets took the whole piece; or a front of it for a cause, and the connection is marked
 abbrev pub WritesThrough : SocketsTold → SocketsTold → List Connection → List Connection → List ℕ → Wrote → Type 0
-WritesThrough old new cs cs' piece Done = (new.took ≡ old.took ++ piece) × (cs' ≡ change_at_hand (after_write piece) cs)
-WritesThrough old new cs cs' piece WriteFailed = ((n : ℕ) × (new.took ≡ old.took ++ take n piece) × (cs' ≡ change_at_hand (λ c. marked (after_write (take n piece) c)) cs)) × HasCause old new
+WritesThrough old new cs cs' piece Done = (new.took ≡ old.took ++ piece) × (cs' ≡ change_at_hand (after_write piece) cs) × GivesNone old new
+WritesThrough old new cs cs' piece WriteFailed = WritesFront old new cs cs' piece × GivesNone old new × HasCause old new

@@ -155,7 +155,7 @@ impl<S: Sockets> TcpDoor<S> {
     // Listens, where the door does not yet, and takes the next peer.
     fn take_peer(&mut self) -> Next
         ensures same { IsSameDoor self.old self.new }
-        ensures open { result ≡ Next.Closed → ⊥ }
+        ensures through { Accepts (S.told self.old.sockets) (S.told self.new.sockets) result }
         ensures counted { self.new.faults ≡ counted (next_failed result) self.old.faults }
         ensures later { self.old.faults ≤ self.new.faults }
     {
@@ -171,7 +171,7 @@ impl<S: Sockets> Door for TcpDoor<S> {
 
     fn next(&mut self) -> Next
         ensures comes { Comes (tcp_told self.old) (tcp_told self.new) result }
-        ensures open { result ≡ Next.Closed → ⊥ }
+        ensures through { Accepts (S.told self.old.sockets) (S.told self.new.sockets) result }
         ensures counted { self.new.faults ≡ counted (next_failed result) self.old.faults }
     {
         let next = self.take_peer();
