@@ -1,7 +1,7 @@
 //! Doors in memory.
 use crate::scripts::Step::{Read, Write};
 use crate::scripts::push_next;
-use crate::shown::{as_text, line};
+use crate::shown::{as_text, heading, line};
 use std::alloc::{AllocError, Global};
 use wb_doors::MemoryDoor;
 use wb_outer::Bytes;
@@ -23,8 +23,39 @@ fn door(alloc: Global, failing: &[u64]) -> Result<MemoryDoor, AllocError> {
 }
 
 fn push_sent(shown: &mut String, door: &MemoryDoor) -> Result<(), AllocError> {
-    for number in 0..LINES {
+    for number in 0..door.line_count() {
         line(shown, "sent", as_text(door.sent(number)))?;
     }
     Ok(())
+}
+
+pub fn push(alloc: Global, shown: &mut String) -> Result<(), AllocError> {
+    push_sure(alloc, shown)?;
+    push_failing(alloc, shown)
+}
+
+/// No call fails.
+fn push_sure(alloc: Global, shown: &mut String) -> Result<(), AllocError> {
+    heading(shown, "a door in memory")?;
+    let mut door = door(alloc, &[])?;
+    push_sent(shown, &door)?;
+    push_next(shown, &mut door, &[Write("one, "), Read, Read, Write("two"), Read, Read, Read])?;
+    push_next(shown, &mut door, &[Read, Write("three")])?;
+    push_next(shown, &mut door, &[])?;
+    push_next(shown, &mut door, &[])?;
+    push_sent(shown, &door)
+}
+
+/// The calls 0, 2, 4, 7 and 10 fail: of the first connection the read and the write that come first, and each call for
+/// the next connection that comes first.
+fn push_failing(alloc: Global, shown: &mut String) -> Result<(), AllocError> {
+    heading(shown, "a door in memory that fails")?;
+    let mut door = door(alloc, &[0, 2, 4, 7, 10])?;
+    push_next(shown, &mut door, &[])?;
+    push_next(shown, &mut door, &[Read, Read, Write("lost"), Write("kept"), Read])?;
+    push_next(shown, &mut door, &[])?;
+    push_next(shown, &mut door, &[Read])?;
+    push_next(shown, &mut door, &[])?;
+    push_next(shown, &mut door, &[])?;
+    push_sent(shown, &door)
 }

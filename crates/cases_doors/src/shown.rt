@@ -10,6 +10,13 @@ pub fn line(shown: &mut String, case: &str, found: &str) -> Result<(), AllocErro
     shown.push_str("\n")
 }
 
+/// What the cases that follow are about.
+pub fn heading(shown: &mut String, text: &str) -> Result<(), AllocError> {
+    shown.push_str("-- ")?;
+    shown.push_str(text)?;
+    shown.push_str("\n")
+}
+
 /// The bytes as a text.
 pub fn as_text(bytes: &[u8]) -> &str {
     std::str::from_utf8(bytes).unwrap_or("no text")

@@ -1,5 +1,5 @@
 -- What a door in memory keeps of the connections that it took.
-use Rattle.std.proofs.Common.{zero, suc, ◌≡◌, refl, ◌∙◌, sym, ap, ℕ, ◌+◌, ◌<◌, List, [], ◌∷◌, ◌++◌, length, take, set, get_or, slice_index_or, map, Some, arith, Bool, true, false, Option, subst, ◌≤◌, ◌-◌, length-append, add-one}
+use Rattle.std.proofs.Common.{zero, suc, ◌≡◌, refl, ◌∙◌, sym, ap, ℕ, ◌+◌, ◌<◌, List, [], ◌∷◌, ◌++◌, length, take, set, get_or, map, Some, arith, Bool, true, false, Option, subst, ◌≤◌, ◌-◌, length-append, add-one}
 use Rattle.std.specs.Global.{Vec}
 use Rattle.std.proofs.lemmas.List.{append-nil}
 use Rattle.std.proofs.Math.ListN.{length-set}

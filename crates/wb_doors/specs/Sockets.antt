@@ -1,5 +1,5 @@
 -- Sockets: what they told.
-use Rattle.std.specs.Prelude.{◌≡◌, ℕ, ◌+◌, ◌<◌, ◌≤◌, ◌⊎◌, Bool, true, false, List, ◌++◌, take}
+use Rattle.std.specs.Prelude.{ℕ, ◌+◌, ◌<◌, ◌≤◌, ◌⊎◌, Bool, true, false, List, ◌++◌, take}
 use Rattle.wb_outer.specs.Files.{rounds}
 use Rattle.wb_outer.specs.declared.files.Part.{Part}
 use Rattle.wb_outer.specs.declared.files.Part.TheVariants.{Bytes as PartBytes, End, Interrupted as PartInterrupted, Failed as PartFailed}

@@ -96,6 +96,13 @@ impl MemoryDoor {
         })
     }
 
+    /// How many connections there are, those to come among them.
+    pub fn line_count(&self) -> usize
+        ensures { result ≡ length self.now.taken + length self.now.waiting }
+    {
+        self.sent.len()
+    }
+
     /// All that was written on a connection; nothing where it was not taken.
     pub fn sent(&self, line: usize) -> &[u8]
         requires { line < length self.now.taken + length self.now.waiting }

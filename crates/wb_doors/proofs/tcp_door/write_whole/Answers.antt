@@ -1,4 +1,4 @@
-use Rattle.std.proofs.Common.{◌≡◌, refl, ◌∙◌, ◌++◌, inl, inr, take, length, drop, ◌-◌, ap, sym, arith, rules, List, ℕ}
+use Rattle.std.proofs.Common.{refl, ◌∙◌, ◌++◌, inl, inr, take, length, drop, ◌-◌, ap, sym, arith, rules, List, ℕ}
 use Rattle.std.proofs.lemmas.List.{append-nil}
 use Rattle.wb_outer.proofs.Puts.{take_on}
 use Rattle.wb_outer.specs.Door.{marked, change_at_hand}

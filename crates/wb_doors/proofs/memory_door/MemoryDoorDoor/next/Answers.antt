@@ -1,5 +1,5 @@
-use Rattle.std.proofs.Common.{◌≡◌, ◌≤◌, ◌∙◌, ◌++◌, ◌∷◌, [], List, ap, rules, true}
-use Rattle.wb_outer.specs.Door.{Connection, fresh}
+use Rattle.std.proofs.Common.{◌≡◌, ◌≤◌, ◌∙◌, ◌++◌, ◌∷◌, [], ap, rules, true}
+use Rattle.wb_outer.specs.Door.{fresh}
 use Rattle.wb_doors.specs.MemoryDoors.{MemoryDoorState}
 use Rattle.wb_doors.proofs.Keeping.{kept_next, comes}
 use Rattle.wb_doors.proofs.memory_door.MemoryDoorDoor.next.Goals as goal

@@ -1,4 +1,3 @@
-use Rattle.std.proofs.Common.{rules}
 use Rattle.wb_doors.proofs.Keeping.{kept_marked, kept_read}
 use Rattle.wb_doors.proofs.memory_door.MemoryDoorDoor.read.Goals as goal
 

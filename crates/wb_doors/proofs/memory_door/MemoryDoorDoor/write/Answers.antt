@@ -1,4 +1,4 @@
-use Rattle.std.proofs.Common.{◌∙◌, ap, rules}
+use Rattle.std.proofs.Common.{◌∙◌, ap}
 use Rattle.wb_doors.specs.MemoryDoors.{MemoryDoorState}
 use Rattle.wb_doors.proofs.Keeping.{kept_write, kept_refused}
 use Rattle.wb_doors.proofs.memory_door.MemoryDoorDoor.write.Goals as goal

@@ -1,5 +1,5 @@
-use Rattle.std.proofs.Common.{◌≡◌, ◌≤◌, ◌∙◌, ap, sym, subst, List, rules}
-use Rattle.wb_outer.specs.Door.{Connection, taken_after}
+use Rattle.std.proofs.Common.{◌≤◌, ◌∙◌, ap, sym, subst}
+use Rattle.wb_outer.specs.Door.{taken_after}
 use Rattle.wb_doors.specs.TcpDoors.{TcpDoorState}
 use Rattle.wb_doors.proofs.Counting.{comes_counted}
 use Rattle.wb_doors.proofs.tcp_door.TcpDoorDoor.next.Goals as goal
