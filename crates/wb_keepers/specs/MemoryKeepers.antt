@@ -1,5 +1,5 @@
 -- A keeper in memory: its rows, and which of its calls fail.
-use Rattle.std.specs.Prelude.{◌≡◌, ⊤, Bool, true, false, List, Some, if◌then◌else◌}
+use Rattle.std.specs.Prelude.{◌≡◌, true, false, List, Some, if◌then◌else◌}
 use Rattle.wb_outer.specs.Faults.{fails_now, after_call}
 use Rattle.wb_outer.specs.Keeper.{KeeperTold, changed}
 use Rattle.wb_outer.specs.declared.faults.FaultPlan.{FaultPlan}
