@@ -1,7 +1,7 @@
 //! Doors in memory.
 use crate::scripts::Step::{Read, Write};
 use crate::scripts::push_next;
-use crate::shown::{as_text, heading, line};
+use cases_rows::{as_text, heading, line};
 use std::alloc::{AllocError, Global};
 use wb_doors::MemoryDoor;
 use wb_outer::Bytes;
@@ -39,7 +39,11 @@ fn push_sure(alloc: Global, shown: &mut String) -> Result<(), AllocError> {
     heading(shown, "a door in memory")?;
     let mut door = door(alloc, &[])?;
     push_sent(shown, &door)?;
-    push_next(shown, &mut door, &[Write("one, "), Read, Read, Write("two"), Read, Read, Read])?;
+    push_next(
+        shown,
+        &mut door,
+        &[Write("one, "), Read, Read, Write("two"), Read, Read, Read],
+    )?;
     push_next(shown, &mut door, &[Read, Write("three")])?;
     push_next(shown, &mut door, &[])?;
     push_next(shown, &mut door, &[])?;
@@ -52,7 +56,11 @@ fn push_failing(alloc: Global, shown: &mut String) -> Result<(), AllocError> {
     heading(shown, "a door in memory that fails")?;
     let mut door = door(alloc, &[0, 2, 4, 7, 10])?;
     push_next(shown, &mut door, &[])?;
-    push_next(shown, &mut door, &[Read, Read, Write("lost"), Write("kept"), Read])?;
+    push_next(
+        shown,
+        &mut door,
+        &[Read, Read, Write("lost"), Write("kept"), Read],
+    )?;
     push_next(shown, &mut door, &[])?;
     push_next(shown, &mut door, &[Read])?;
     push_next(shown, &mut door, &[])?;

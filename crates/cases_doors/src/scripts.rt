@@ -1,7 +1,8 @@
 //! Calls that a door is asked to make, by a script.
 ghost use Rattle.std.specs.Prelude.{◌≡◌, Some};
 
-use crate::shown::{got_word, line, next_word, wrote_word};
+use crate::shown::{got_word, next_word, wrote_word};
+use cases_rows::line;
 use std::alloc::AllocError;
 use wb_outer::{Door, Next};
 

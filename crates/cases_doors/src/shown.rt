@@ -1,26 +1,6 @@
-//! Words for what doors and keepers answer.
-use std::alloc::AllocError;
-use wb_outer::{Committed, Got, Next, Wrote};
-
-/// A case and what was found, as a line.
-pub fn line(shown: &mut String, case: &str, found: &str) -> Result<(), AllocError> {
-    shown.push_str(case)?;
-    shown.push_str(": ")?;
-    shown.push_str(found)?;
-    shown.push_str("\n")
-}
-
-/// What the cases that follow are about.
-pub fn heading(shown: &mut String, text: &str) -> Result<(), AllocError> {
-    shown.push_str("-- ")?;
-    shown.push_str(text)?;
-    shown.push_str("\n")
-}
-
-/// The bytes as a text.
-pub fn as_text(bytes: &[u8]) -> &str {
-    std::str::from_utf8(bytes).unwrap_or("no text")
-}
+//! Words for what doors answer.
+use cases_rows::as_text;
+use wb_outer::{Got, Next, Wrote};
 
 pub fn next_word(next: Next) -> &'static str {
     match next {
@@ -34,14 +14,6 @@ pub fn wrote_word(wrote: Wrote) -> &'static str {
     match wrote {
         Wrote::Done => "done",
         Wrote::Failed => "failed",
-    }
-}
-
-pub fn committed_word(committed: Committed) -> &'static str {
-    match committed {
-        Committed::Done => "done",
-        Committed::Failed => "failed",
-        Committed::NoMemory => "no memory",
     }
 }
 

@@ -5,7 +5,8 @@ ghost use Rattle.wb_outer.specs.Output.{IsPart};
 
 use crate::scripts::Step::{Read, Write};
 use crate::scripts::push_next;
-use crate::shown::{heading, line, wrote_word};
+use crate::shown::wrote_word;
+use cases_rows::{heading, line};
 use std::alloc::{AllocError, Global};
 use wb_doors::{Came, Sockets, SocketsTold, TcpDoor};
 use wb_outer::{Part, Put};
@@ -18,7 +19,7 @@ struct Scripted {
     told: SocketsTold,
 }
 
-fn scripted(alloc: Global, script: &str) -> Result<Scripted, AllocError> {
+fn by_script(alloc: Global, script: &str) -> Result<Scripted, AllocError> {
     Ok(Scripted {
         left: Vec::from_slice(alloc, script.as_bytes())?,
         told: SocketsTold::new(),
@@ -27,7 +28,11 @@ fn scripted(alloc: Global, script: &str) -> Result<Scripted, AllocError> {
 
 // The first character that is left.
 fn step(left: &mut Vec<u8>) -> u8 {
-    if left.is_empty() { b'f' } else { left.remove(0) }
+    if left.is_empty() {
+        b'f'
+    } else {
+        left.remove(0)
+    }
 }
 
 // How many bytes a digit stands for, one at least and no more than so many.
@@ -106,7 +111,7 @@ pub fn push(alloc: Global, shown: &mut String) -> Result<(), AllocError> {
 /// The first bind is refused; of the others the first is made, and no more.
 fn push_listening(alloc: Global, shown: &mut String) -> Result<(), AllocError> {
     heading(shown, "sockets that refuse to listen")?;
-    let mut door = TcpDoor::over(scripted(alloc, "f1fi1")?);
+    let mut door = TcpDoor::over(by_script(alloc, "f1fi1")?);
     for _ in 0..3u8 {
         line(shown, "listen", wrote_word(door.listen()))?;
     }
@@ -117,9 +122,21 @@ fn push_listening(alloc: Global, shown: &mut String) -> Result<(), AllocError> {
 /// The door listens at its first call for the next connection.
 fn push_lines(alloc: Global, shown: &mut String) -> Result<(), AllocError> {
     heading(shown, "sockets that are interrupted and fail")?;
-    let mut door = TcpDoor::over(scripted(alloc, "f1fii1i21fi.1i211f")?);
+    let mut door = TcpDoor::over(by_script(alloc, "f1fii1i21fi.1i211f")?);
     push_next(shown, &mut door, &[])?;
     push_next(shown, &mut door, &[])?;
-    push_next(shown, &mut door, &[Read, Read, Read, Read, Write("four"), Write(""), Write("on")])?;
+    push_next(
+        shown,
+        &mut door,
+        &[
+            Read,
+            Read,
+            Read,
+            Read,
+            Write("four"),
+            Write(""),
+            Write("on"),
+        ],
+    )?;
     push_next(shown, &mut door, &[])
 }

@@ -1,13 +1,13 @@
 //! A door over TCP, with peers in this very program.
 ghost use Rattle.std.specs.Prelude.{◌≡◌, Some};
 
-use crate::shown::{as_text, heading, line, next_word, wrote_word};
+use crate::shown::{next_word, wrote_word};
+use cases_rows::{as_text, heading, line};
 use std::alloc::{AllocError, Global};
-use std::io;
 use std::io::Write;
 use std::net::{Shutdown, TcpStream};
-use std::thread;
 use std::time::Duration;
+use std::{io, thread};
 use wb_doors::{SystemSockets, TcpDoor};
 use wb_outer::{Door, Got, Next, Wrote};
 
@@ -34,11 +34,7 @@ fn listening(rt: &HostRuntime) -> Option<TcpDoor<SystemSockets>> {
 }
 
 /// All that is left of the connection at hand, and whether its end came.
-fn read_all<D: Door>(
-    alloc: Global,
-    shown: &mut String,
-    door: &mut D,
-) -> Result<(), AllocError>
+fn read_all<D: Door>(alloc: Global, shown: &mut String, door: &mut D) -> Result<(), AllocError>
     requires { (D.told door.old).last ≡ Some Next.Line }
 {
     let mut bytes = Vec::new(alloc);

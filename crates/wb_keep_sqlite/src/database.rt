@@ -1,7 +1,7 @@
 //! The file of rows: a table of keys and texts. Nothing is claimed of what it holds.
 use crate::refusal::Refusal;
 use sqlite::{Connection, File, FileStore, params};
-use std::alloc::Global;
+use std::alloc::{AllocError, Global};
 use wb_base::List;
 use wb_outer::{Bytes, Row, RowChange};
 
@@ -11,7 +11,8 @@ const MAKE: &str = "CREATE TABLE IF NOT EXISTS kept(k BLOB PRIMARY KEY, t BLOB N
 
 const LOAD: &str = "SELECT k, t FROM kept ORDER BY k";
 
-const PUT: &str = "INSERT INTO kept(k, t) VALUES (?1, ?2) ON CONFLICT(k) DO UPDATE SET t = excluded.t";
+const PUT: &str =
+    "INSERT INTO kept(k, t) VALUES (?1, ?2) ON CONFLICT(k) DO UPDATE SET t = excluded.t";
 
 const ERASE: &str = "DELETE FROM kept WHERE k = ?1";
 
@@ -34,12 +35,17 @@ fn read_row(row: &sqlite::Row) -> Result<Row, Refusal> {
     })
 }
 
+fn keep(rows: &mut List<Row>, row: Row) -> Result<(), AllocError> {
+    rows.push(row)?;
+    Ok(())
+}
+
 /// All rows, ascending by key as the database orders them.
 pub fn load(alloc: Global, database: &mut Database) -> Result<List<Row>, Refusal> {
     let found = database.query_all(LOAD, &[])?;
     let mut rows = List::new(alloc);
     for row in found.as_slice() {
-        rows.push(read_row(row)?)?;
+        keep(&mut rows, read_row(row)?)?;
     }
     Ok(rows)
 }

@@ -1,6 +1,6 @@
 //! Why a call on the database comes to nothing.
 use sqlite::{Error, ErrorCode};
-use std::alloc::{AllocError, AllocFailed};
+use std::alloc::AllocError;
 
 /// Want of memory, or any other refusal of the database.
 #[derive(Clone, Copy, Debug, PartialEq, Eq)]
@@ -20,12 +20,6 @@ impl From<Error> for Refusal {
 
 impl From<AllocError> for Refusal {
     fn from(_error: AllocError) -> Refusal {
-        Refusal::NoMemory
-    }
-}
-
-impl<T: Drop> From<AllocFailed<T>> for Refusal {
-    fn from(_failed: AllocFailed<T>) -> Refusal {
         Refusal::NoMemory
     }
 }
