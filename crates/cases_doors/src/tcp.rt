@@ -33,9 +33,10 @@ fn listening(rt: &HostRuntime) -> Option<TcpDoor<SystemSockets>> {
     None
 }
 
-/// All that is left of the connection at hand, and whether its end came.
+/// All that is left of the connection at hand, and whether its end came. The connection stays at hand.
 fn read_all<D: Door>(alloc: Global, shown: &mut String, door: &mut D) -> Result<(), AllocError>
     requires { (D.told door.old).last ≡ Some Next.Line }
+    ensures { (D.told door.new).last ≡ Some Next.Line }
 {
     let mut bytes = Vec::new(alloc);
     let mut room = [0u8; 2];

@@ -67,7 +67,7 @@ fn push_wrong(rt: &HostRuntime, shown: &mut String) -> Result<(), AllocError> {
     for (case, path) in [
         ("a file that is no database", b"wrong.db".as_slice()),
         ("a folder that is not there", b"none/kept.db".as_slice()),
-        ("a path that is no text", [255].as_slice()),
+        ("a path that is no text", b"\xff".as_slice()),
     ] {
         heading(shown, case)?;
         let mut keeper = keeper(rt, path)?;
