@@ -32,7 +32,7 @@ unfoldable pub AreFit : Metamodel → Specification → (tool place : ℕ) → L
 AreFit mm spec tool place scope no_trees = ⊤
 AreFit mm spec tool place scope (trees (operation number action inside) xs) =
     FitsAt mm spec tool place scope
-    × AreFit mm spec tool (suc place) (scope_inside scope action) inside
+    × AreFit mm spec tool (place + 1) (scope_inside scope action) inside
     × AreFit mm spec tool (place + suc (count_all inside)) scope xs
 
 -- the expression at a place may be evaluated with these variables
@@ -52,7 +52,7 @@ pub record IsReadyAround (mm : Metamodel) (spec : Specification) (tool place : �
   pub names : List (List ℕ)
   pub binds : Binds mm (with_self names) env
   pub fits : FitsAt mm spec tool place (with_self names)
-  pub fit : AreFit mm spec tool (suc place) (inner (with_self names)) inside
+  pub fit : AreFit mm spec tool (place + 1) (inner (with_self names)) inside
 
 -- those inside have the scope of the operation, or one variable more
 abbrev pub same_scope : List (List ℕ) → List (List ℕ)

@@ -20,7 +20,7 @@ use Rattle.wb_tools.specs.declared.refusals.ToolRefusal.TheVariants.{Preconditio
 unfoldable pub perform : Specification → (tool place : ℕ) → Trees → Env → (context : ℕ) → Doing Unit
 perform spec tool place no_trees env o = done tt
 perform spec tool place (trees (operation number action inside) xs) env o =
-    after (act spec tool place action (perform spec tool (suc place) inside) env o) (λ _. perform spec tool (place + suc (count_all inside)) xs env o)
+    after (act spec tool place action (perform spec tool (place + 1) inside) env o) (λ _. perform spec tool (place + suc (count_all inside)) xs env o)
 
 abbrev pub permitted : Bool → Result Unit ToolRefusal
 permitted true = Ok tt

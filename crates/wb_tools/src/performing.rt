@@ -1,4 +1,4 @@
-ghost use Rattle.std.specs.Prelude.{◌≡◌, ◌+◌, ◌<◌, suc, length, true, Ok, Some};
+ghost use Rattle.std.specs.Prelude.{◌≡◌, ◌+◌, ◌<◌, length, true, Ok, Some};
 ghost use Rattle.std.specs.List.{list_all};
 ghost use Rattle.wb_aql_values.specs.Bounds.{is_bounded};
 ghost use Rattle.wb_spec_check.specs.Scopes.{scope_inside};
@@ -89,7 +89,7 @@ fn act<E: Evaluator>(
 ) -> Result<(), ToolRefusal>
     requires ready { IsReadyAround model.old.metamodel spec.now tool place (λ scope. scope_inside scope action.now) (trees_of inside.now) env.now }
     requires fits { place + count_all (trees_of inside.now) < 4294967295 }
-    ensures done { Went (run E.outcome_by (act spec.now tool place action.now (perform spec.now tool (suc place) (trees_of inside.now)) env.now context) (work model.old tally.old)) result model.new tally.new }
+    ensures done { Went (run E.outcome_by (act spec.now tool place action.now (perform spec.now tool (place + 1) (trees_of inside.now)) env.now context) (work model.old tally.old)) result model.new tally.new }
     ensures counted { E.count steps.new + tally.old.expressions ≡ E.count steps.old + tally.new.expressions }
     ensures same { model.new.metamodel ≡ model.old.metamodel }
 {
@@ -138,7 +138,7 @@ fn change_context<E: Evaluator>(
 ) -> Result<(), ToolRefusal>
     requires ready { IsReadyAround model.old.metamodel spec.now tool place same_scope (trees_of inside.now) env.now }
     requires fits { place + count_all (trees_of inside.now) < 4294967295 }
-    ensures done { Went (run E.outcome_by (change_context spec.now tool place (perform spec.now tool (suc place) (trees_of inside.now)) env.now) (work model.old tally.old)) result model.new tally.new }
+    ensures done { Went (run E.outcome_by (change_context spec.now tool place (perform spec.now tool (place + 1) (trees_of inside.now)) env.now) (work model.old tally.old)) result model.new tally.new }
     ensures counted { E.count steps.new + tally.old.expressions ≡ E.count steps.old + tally.new.expressions }
     ensures same { model.new.metamodel ≡ model.old.metamodel }
 {
@@ -177,7 +177,7 @@ fn create_instance<E: Evaluator>(
 ) -> Result<(), ToolRefusal>
     requires ready { IsReadyAround model.old.metamodel spec.now tool place (one_more variable.now) (trees_of inside.now) env.now }
     requires fits { place + count_all (trees_of inside.now) < 4294967295 }
-    ensures done { Went (run E.outcome_by (create_instance spec.now tool place reference.now variable.now (perform spec.now tool (suc place) (trees_of inside.now)) env.now context) (work model.old tally.old)) result model.new tally.new }
+    ensures done { Went (run E.outcome_by (create_instance spec.now tool place reference.now variable.now (perform spec.now tool (place + 1) (trees_of inside.now)) env.now context) (work model.old tally.old)) result model.new tally.new }
     ensures counted { E.count steps.new + tally.old.expressions ≡ E.count steps.old + tally.new.expressions }
     ensures same { model.new.metamodel ≡ model.old.metamodel }
 {
@@ -210,7 +210,7 @@ fn create<E: Evaluator>(
     requires ready { IsReadyAround model.old.metamodel spec.now tool place (one_more variable.now) (trees_of inside.now) env.now }
     requires class { class < length model.old.metamodel.classes }
     requires fits { place + count_all (trees_of inside.now) < 4294967295 }
-    ensures done { Went (run E.outcome_by (creating place (Some class) reference.now variable.now (perform spec.now tool (suc place) (trees_of inside.now)) env.now context) (work model.old tally.old)) result model.new tally.new }
+    ensures done { Went (run E.outcome_by (creating place (Some class) reference.now variable.now (perform spec.now tool (place + 1) (trees_of inside.now)) env.now context) (work model.old tally.old)) result model.new tally.new }
     ensures counted { E.count steps.new + tally.old.expressions ≡ E.count steps.old + tally.new.expressions }
     ensures same { model.new.metamodel ≡ model.old.metamodel }
 {
@@ -335,7 +335,7 @@ fn run_for<E: Evaluator>(
 ) -> Result<(), ToolRefusal>
     requires ready { IsReadyAround model.old.metamodel spec.now tool place (one_more iterator.now) (trees_of inside.now) env.now }
     requires fits { place + count_all (trees_of inside.now) < 4294967295 }
-    ensures done { Went (run E.outcome_by (for_each spec.now tool place iterator.now (perform spec.now tool (suc place) (trees_of inside.now)) env.now context) (work model.old tally.old)) result model.new tally.new }
+    ensures done { Went (run E.outcome_by (for_each spec.now tool place iterator.now (perform spec.now tool (place + 1) (trees_of inside.now)) env.now context) (work model.old tally.old)) result model.new tally.new }
     ensures counted { E.count steps.new + tally.old.expressions ≡ E.count steps.old + tally.new.expressions }
     ensures same { model.new.metamodel ≡ model.old.metamodel }
 {
@@ -375,7 +375,7 @@ fn run_turns<E: Evaluator>(
     requires ready { IsReadyAround model.old.metamodel spec.now tool place (one_more iterator.now) (trees_of inside.now) env.now }
     requires bounded { list_all (is_bounded model.old.metamodel) items.now ≡ true }
     requires fits { place + count_all (trees_of inside.now) < 4294967295 }
-    ensures done { Went (run E.outcome_by (each (turn iterator.now (perform spec.now tool (suc place) (trees_of inside.now)) env.now context) items.now) (work model.old tally.old)) result model.new tally.new }
+    ensures done { Went (run E.outcome_by (each (turn iterator.now (perform spec.now tool (place + 1) (trees_of inside.now)) env.now context) items.now) (work model.old tally.old)) result model.new tally.new }
     ensures counted { E.count steps.new + tally.old.expressions ≡ E.count steps.old + tally.new.expressions }
     ensures same { model.new.metamodel ≡ model.old.metamodel }
 {
@@ -417,7 +417,7 @@ fn run_turn<E: Evaluator>(
     requires ready { IsReadyAround model.old.metamodel spec.now tool place (one_more name.now) (trees_of inside.now) env.now }
     requires bounded { is_bounded model.old.metamodel item.now ≡ true }
     requires fits { place + count_all (trees_of inside.now) < 4294967295 }
-    ensures done { Went (run E.outcome_by (perform spec.now tool (suc place) (trees_of inside.now) (inside_with name.now item.now context env.now) context) (work model.old tally.old)) result model.new tally.new }
+    ensures done { Went (run E.outcome_by (perform spec.now tool (place + 1) (trees_of inside.now) (inside_with name.now item.now context env.now) context) (work model.old tally.old)) result model.new tally.new }
     ensures counted { E.count steps.new + tally.old.expressions ≡ E.count steps.old + tally.new.expressions }
     ensures same { model.new.metamodel ≡ model.old.metamodel }
 {
@@ -452,7 +452,7 @@ fn run_if<E: Evaluator>(
 ) -> Result<(), ToolRefusal>
     requires ready { IsReadyAround model.old.metamodel spec.now tool place same_scope (trees_of inside.now) env.now }
     requires fits { place + count_all (trees_of inside.now) < 4294967295 }
-    ensures done { Went (run E.outcome_by (if_true spec.now tool place (perform spec.now tool (suc place) (trees_of inside.now)) env.now context) (work model.old tally.old)) result model.new tally.new }
+    ensures done { Went (run E.outcome_by (if_true spec.now tool place (perform spec.now tool (place + 1) (trees_of inside.now)) env.now context) (work model.old tally.old)) result model.new tally.new }
     ensures counted { E.count steps.new + tally.old.expressions ≡ E.count steps.old + tally.new.expressions }
     ensures same { model.new.metamodel ≡ model.old.metamodel }
 {
