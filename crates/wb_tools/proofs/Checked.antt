@@ -1,8 +1,10 @@
 -- In a viewpoint that was checked, the expressions of a tool were checked in the scopes of their places.
-use Rattle.std.proofs.Common.{◌≡◌, ◌<◌, ◌+◌, ℕ, zero, suc, Bool, true, false, List, [], ◌∷◌, ◌++◌, length, Option, Some, None, Result, Ok, Err, refl, sym, ap, subst, ◌∙◌, codes, slice_get, append_assoc, append-nil, arith}
+use Rattle.std.proofs.Common.{◌≡◌, ◌<◌, ◌+◌, ℕ, zero, suc, Bool, true, false, List, [], ◌∷◌, ◌++◌, length, drop, Option, Some, None, Result, Ok, Err, refl, sym, ap, subst, ◌∙◌, codes, slice_get, append_assoc, append-nil, arith}
 use Rattle.std.specs.Prelude.{⊤, ◌≤◌, IfSome, nat_le}
 use Rattle.std.specs.List.{list_all}
+use Rattle.std.proofs.lemmas.Bool.{and_parts, leb-true}
 use Rattle.std.proofs.lemmas.List.{length-append}
+use Rattle.std.specs.Option.{option_map_or}
 use Rattle.std.proofs.lemmas.Option.{slice_get_within}
 use Rattle.wb_base.proofs.Positions.{position-Some}
 use Rattle.wb_base.specs.Results.{◌>>=◌}
@@ -12,11 +14,16 @@ use Rattle.wb_expressions.specs.declared.problem.ProblemCode.{ProblemCode}
 use Rattle.wb_expressions.specs.declared.problem.ProblemCode.TheVariants as c
 use Rattle.wb_json.specs.Place.{Place}
 use Rattle.wb_metamodel.specs.Metamodel.{Metamodel, class_named, same_name}
-use Rattle.wb_viewpoint.specs.OperationTrees.{Tree, Trees, operation, no_trees, trees, count, count_all}
+use Rattle.wb_viewpoint.specs.OperationTrees.{Tree, Trees, operation, no_trees, trees, count, count_all, nesting_all}
+use Rattle.wb_viewpoint.specs.Limits.{has_few_operations, is_small}
 use Rattle.wb_viewpoint.specs.declared.content.Content.{Content}
 use Rattle.wb_viewpoint.specs.declared.operations.Action.{Action}
 use Rattle.wb_viewpoint.specs.declared.operations.Action.TheVariants as a
 use Rattle.wb_viewpoint.specs.declared.tools.Tool.{Tool}
+use Rattle.wb_viewpoint.specs.declared.tools.ToolKind.{ToolKind}
+use Rattle.wb_viewpoint.specs.declared.tools.ToolKind.TheVariants as k
+use Rattle.wb_aql_eval.specs.Outcomes.{Binds}
+use Rattle.wb_aql_eval.specs.declared.env.Env.{Env}
 use Rattle.wb_spec_check.specs.Checked.{Specification, IsCheckedBy, checked}
 use Rattle.wb_spec_check.specs.Findings.{class_found, is_abstract_class, made_class, or_problem, problem_if}
 use Rattle.wb_spec_check.specs.Mappings.{expression_at}
@@ -30,7 +37,10 @@ use Rattle.wb_spec_check.specs.declared.checked_tools.CheckedTool.{CheckedTool}
 use Rattle.wb_spec_check.specs.declared.parts.Parts.{Parts}
 use Rattle.wb_answers.proofs.CheckedExpressions.{expression_checked}
 use Rattle.wb_answers.proofs.Yields.{any, OfSome, Yields, yields_at, yields_both, yields_good, yields_optional}
-use Rattle.wb_tools.specs.Readiness.{AreFit, Fits, FitsAt}
+use Rattle.wb_tools.specs.Bindings.{in_context}
+use Rattle.wb_tools.specs.Readiness.{AreFit, AreReady, Fits, FitsAt, IsReady, variables_of, with_self}
+use Rattle.wb_tools.specs.Tools.{operations_of}
+use Rattle.wb_tools.proofs.Variables.{binds_first}
 
 -- ---- one operation
 
@@ -82,7 +92,7 @@ action_fits mm scope place (a.If condition) = yields_both (yields_good _ (λ e h
 pub record Stands (spec : Specification) (tool : ℕ) (before rows after : List CheckedOperation) : Type 0 where
   pub own : CheckedTool
   pub there : slice_get spec.1.tools tool ≡ Some own
-  pub rows : own.operations ≡ before ++ (rows ++ after)
+  pub are : own.operations ≡ before ++ (rows ++ after)
 
 at_length : {A : Type 0} (before : List A) (y : A) (after : List A) → slice_get (before ++ y ∷ after) (length before) ≡ Some y
 at_length [] y after = refl
@@ -93,7 +103,7 @@ module _ (mm : Metamodel) (spec : Specification) (tool : ℕ) where
   row_fits : (scope : List (List ℕ)) (before after : List CheckedOperation) (row : CheckedOperation) (rows : List CheckedOperation) → Stands spec tool before (row ∷ rows) after → RowFits mm scope row → FitsAt mm spec tool (1 + length before) scope
   unfolding tool_expression class_of_operation
   row_fits scope before after row rows s fit =
-      let here : slice_get s.own.operations (length before) ≡ Some row = ap (λ (xs : List CheckedOperation). slice_get xs (length before)) s.rows ∙ at_length before row (rows ++ after) in
+      let here : slice_get s.own.operations (length before) ≡ Some row = ap (λ (xs : List CheckedOperation). slice_get xs (length before)) s.are ∙ at_length before row (rows ++ after) in
       let whole : slice_get spec.1.tools tool ≡ Some s.own = s.there in
       (rw (whole, here) fit.0, rw (whole, here) fit.1)
 
@@ -111,27 +121,26 @@ module _ (mm : Metamodel) (spec : Specification) (tool : ℕ) where
       within before after s =
           let place : length (before ++ row ∷ []) ≡ length before + 1 = length-append before (row ∷ []) in
           subst (λ k. AreFit mm spec tool (1 + k) (scope_inside scope action) inside) place
-          (fits.1 (before ++ row ∷ []) after (record { own = s.own; there = s.there; rows = s.rows ∙ sym (append_assoc before (row ∷ []) (rows ++ after)) }))
+          (fits.1 (before ++ row ∷ []) after (record { own = s.own; there = s.there; are = s.are ∙ sym (append_assoc before (row ∷ []) (rows ++ after)) }))
 
   more_fit : (scope : List (List ℕ)) (x : Tree) (xs : Trees) (ys zs : List CheckedOperation) → OneFits scope x ys → RowsFit scope xs zs → RowsFit scope (trees x xs) (ys ++ zs)
   more_fit scope x xs ys zs one others =
       (length-append ys zs ∙ (ap (λ k. k + length zs) one.0 ∙ ap (λ k. count x + k) others.0),
-      λ before after s. one.1 before (zs ++ after) (record { own = s.own; there = s.there; rows = s.rows ∙ ap (λ r. before ++ r) (append_assoc ys zs after) }) xs (rest before after s))
+      λ before after s. one.1 before (zs ++ after) (record { own = s.own; there = s.there; are = s.are ∙ ap (λ r. before ++ r) (append_assoc ys zs after) }) xs (rest before after s))
     where
       rest : (before after : List CheckedOperation) → Stands spec tool before (ys ++ zs) after → AreFit mm spec tool ((1 + length before) + count x) scope xs
       rest before after s =
           let place : length (before ++ ys) ≡ length before + count x = length-append before ys ∙ ap (λ k. length before + k) one.0 in
           subst (λ k. AreFit mm spec tool (1 + k) scope xs) place
-          (others.1 (before ++ ys) after (record { own = s.own; there = s.there; rows = s.rows ∙ (ap (λ r. before ++ r) (append_assoc ys zs after) ∙ sym (append_assoc before ys (zs ++ after))) }))
+          (others.1 (before ++ ys) after (record { own = s.own; there = s.there; are = s.are ∙ (ap (λ r. before ++ r) (append_assoc ys zs after) ∙ sym (append_assoc before ys (zs ++ after))) }))
 
   mutual
+    unfolding operation_at operations_from AreFit
     operation_fits : (scope : List (List ℕ)) (place : Place) (x : Tree) → Yields (OneFits scope x) (operation_at mm scope place x)
-    unfolding operation_at
     operation_fits scope place (operation n action inside) =
         yields_both (yields_both (yields_good _ (λ row fit rows fits. one_fits scope n action inside row rows fit fits)) (action_fits mm scope place action)) (operations_fit (scope_inside scope action) (place ▸ codes "do") 0 inside)
 
     operations_fit : (scope : List (List ℕ)) (place : Place) (i : ℕ) (xs : Trees) → Yields (RowsFit scope xs) (operations_from mm scope place i xs)
-    unfolding operations_from AreFit
     operations_fit scope place i no_trees = yields_good [] (refl, λ before after s. tt)
     operations_fit scope place i (trees x xs) =
         yields_both (yields_both (yields_good _ (λ ys one zs others. more_fit scope x xs ys zs one others)) (operation_fits scope (place ! i) x)) (operations_fit scope place (suc i) xs)
@@ -192,4 +201,54 @@ module _ (mm : Metamodel) (spec : Specification) (n : ℕ) (tool : Tool) (is : I
 
   -- the operations, from place 1 on
   pub operations_ready : AreFit mm spec n 1 (tool_scope tool.kind) tool.operations
-  operations_ready = (own_of.2.1 spec n).1 [] [] (record { own = own_of.0; there = own_of.1; rows = sym (append-nil own_of.0.operations) })
+  operations_ready = (own_of.2.1 spec n).1 [] [] (record { own = own_of.0; there = own_of.1; are = sym (append-nil own_of.0.operations) })
+
+-- ---- a tool by its number
+
+some_tool : (tools : List Tool) (n : ℕ) → n < length tools → (tool : Tool) × (slice_get tools n ≡ Some tool)
+some_tool [] n h = absurd (omega (arith, h))
+some_tool (x ∷ xs) zero h = (x, refl)
+some_tool (x ∷ xs) (suc n) h = some_tool xs n (omega arith)
+
+-- `self` is the first variable of each kind
+self_first : (kind : ToolKind) → with_self (drop 1 (tool_scope kind)) ≡ tool_scope kind
+unfolding tool_scope
+self_first k.NodeCreation = refl
+self_first k.EdgeCreation = refl
+self_first k.Delete = refl
+self_first k.DirectEdit = refl
+self_first k.Reconnect = refl
+self_first k.Drop = refl
+
+-- operations are few
+few_of : (tools : List Tool) (n : ℕ) → list_all has_few_operations tools ≡ true → count_all (option_map_or (λ (it : Tool). it.operations) (slice_get tools n) no_trees) ≤ 256
+few_of [] n h = omega arith
+few_of (x ∷ xs) zero h = leb-true (count_all x.operations) 256 (and_parts (nat_le (count_all x.operations) 256) (nat_le (nesting_all x.operations) 16) (and_parts _ _ h).0).0
+few_of (x ∷ xs) (suc n) h = few_of xs n (and_parts _ _ h).1
+
+pub few_operations : (spec : Specification) (n : ℕ) → is_small spec.0 ≡ true → count_all (operations_of spec n) ≤ 256
+unfolding is_small
+few_operations spec n h = few_of spec.0.tools n (and_parts _ _ h).1
+
+module _ (mm : Metamodel) (spec : Specification) (n : ℕ) (is : IsCheckedBy mm spec) (here : n < length spec.0.tools) (env : Env) (o : ℕ) (nearer : Env) (same : nearer ≡ in_context o env) (binds : Binds mm (variables_of spec n) env) where
+  found : (tool : Tool) × (slice_get spec.0.tools n ≡ Some tool)
+  found = some_tool spec.0.tools n here
+
+  variables_is : with_self (variables_of spec n) ≡ tool_scope found.0.kind
+  variables_is = ap (λ (it : Option Tool). with_self (option_map_or (λ (tool : Tool). drop 1 (tool_scope tool.kind)) it [])) found.1 ∙ self_first found.0.kind
+
+  operations_is : operations_of spec n ≡ found.0.operations
+  operations_is = ap (λ (it : Option Tool). option_map_or (λ (tool : Tool). tool.operations) it no_trees) found.1
+
+  bound_there : Binds mm (with_self (variables_of spec n)) nearer
+  bound_there = subst (Binds mm (with_self (variables_of spec n))) (sym same) (binds_first mm (variables_of spec n) o env binds)
+
+  pub ready_precondition : IsReady mm spec n 0 nearer
+  ready_precondition = record { names = variables_of spec n; binds = bound_there; fits = subst (FitsAt mm spec n 0) (sym variables_is) (precondition_ready mm spec n found.0 is found.1) }
+
+  pub ready_operations : AreReady mm spec n 1 (operations_of spec n) nearer
+  ready_operations = record {
+    names = variables_of spec n;
+    binds = bound_there;
+    fit = subst (λ (scope : List (List ℕ)). AreFit mm spec n 1 scope (operations_of spec n)) (sym variables_is) (subst (AreFit mm spec n 1 (tool_scope found.0.kind)) (sym operations_is) (operations_ready mm spec n found.0 is found.1));
+  }

@@ -1,6 +1,8 @@
+pub mod Asked
 pub mod Checked
-pub mod Performing
+pub mod FeatureLemmas
 pub mod Ready
 pub mod RunLemmas
+pub mod Sequences
 pub mod Variables
 pub mod Whole

@@ -130,32 +130,36 @@ module _ (out : Outcomes) where
 
   -- ---- what needs no step
 
-  pub stops : {A : Type 0} (refusal : ToolRefusal) (t : Tally) → IsStop {A} (named refusal) (stopped refusal t.expressions) t
-  stops r.PreconditionFalse t = refl
-  stops (r.Evaluation place fault) t = refl
-  stops (r.BadContext place) t = refl
-  stops (r.Model place e.UnknownObject) t = refl
-  stops (r.Model place e.KindMismatch) t = refl
-  stops (r.Model place e.UpperBound) t = refl
-  stops (r.Model place e.ContainmentCycle) t = refl
-  stops (r.Model place e.AbstractClass) t = refl
-  stops (r.Model place e.TooManyObjects) t = refl
-  stops (r.Model place e.IdsSpent) t = refl
-  stops (r.Model place e.NoMemory) t = omega arith
-  stops r.ToolTooLong t = refl
-  stops r.NoMemory t = omega arith
+  pub stops : (A : Type 0) (refusal : ToolRefusal) (t : Tally) → IsStop {A = A} (named refusal) (stopped refusal t.expressions) t
+  stops A r.PreconditionFalse t = refl
+  stops A (r.Evaluation place fault) t = refl
+  stops A (r.BadContext place) t = refl
+  stops A (r.Model place e.UnknownObject) t = refl
+  stops A (r.Model place e.KindMismatch) t = refl
+  stops A (r.Model place e.UpperBound) t = refl
+  stops A (r.Model place e.ContainmentCycle) t = refl
+  stops A (r.Model place e.AbstractClass) t = refl
+  stops A (r.Model place e.TooManyObjects) t = refl
+  stops A (r.Model place e.IdsSpent) t = refl
+  stops A (r.Model place e.NoMemory) t = omega arith
+  stops A r.ToolTooLong t = refl
+  stops A r.NoMemory t = omega arith
 
-  pub refused : {A : Type 0} (refusal : ToolRefusal) (w : Work) (m : Contents) → Went {A} (run out (refuse refusal) w) (Err refusal) m w.tally
+  pub run_refuse : {A : Type 0} (refusal : ToolRefusal) (w : Work) → run out (refuse {A = A} refusal) w ≡ stopped refusal w.tally.expressions
   unfolding run
-  refused refusal w m = stops refusal w.tally
+  run_refuse refusal w = refl
+
+  pub refused_as : {A : Type 0} (refusal : ToolRefusal) (w : Work) (result : Result A ToolRefusal) (m : Contents) → result ≡ Err refusal → Went (run out (refuse refusal) w) result m w.tally
+  unfolding run
+  refused_as {A = A} refusal w result m is = subst (λ (x : Result A ToolRefusal). Went (stopped refusal w.tally.expressions) x m w.tally) (sym is) (stops A refusal w.tally)
 
   pub given_went : {A : Type 0} (known : Result A ToolRefusal) (w : Work) → Went (run out (given known) w) known w.model w.tally
   unfolding run
   given_went (Ok x) w = refl
-  given_went (Err refusal) w = stops refusal w.tally
+  given_went {A = A} (Err refusal) w = stops A refusal w.tally
 
   pub given_is : {A : Type 0} (known result : Result A ToolRefusal) (w : Work) → result ≡ known → Went (run out (given known) w) result w.model w.tally
-  given_is known result w is = subst (λ (x : Result A ToolRefusal). Went (run out (given known) w) x w.model w.tally) (sym is) (given_went known w)
+  given_is {A = A} known result w is = subst (λ (x : Result A ToolRefusal). Went (run out (given known) w) x w.model w.tally) (sym is) (given_went known w)
 
   -- ---- in a loop, whose steps from here on end as all of them do
 
@@ -194,6 +198,16 @@ pub uncounted_edit : (place : ℕ) (change : Result Edit ModelRefusal) (m : Cont
 unfolding changed
 uncounted_edit place change m t more = choice_true (nat_le 10000 t.edits) (stopped r.ToolTooLong t.expressions) (edit_at place m.next (made change m) (one_edit_more t)) more
 
+module _ (out : Outcomes) (place : ℕ) (change : Result Edit ModelRefusal) (m n : Contents) (t u : Tally) (result : Result ℕ ToolRefusal) where
+  pub edit_uncounted : (refusal : ToolRefusal) → IsErrAnd result (λ other. other ≡ refusal) → Counts (Err refusal) t u → Went (run out (edited place change) (work m t)) result n u
+  edit_uncounted refusal is h =
+      let end : Ended ℕ = run out (edited place change) (work m t) in
+      returned out end result refusal n u is
+      (subst (λ (x : ToolRefusal). IsStop (named x) end u) (sym h.0) (subst (λ (y : Tally). IsStop (Some r.ToolTooLong) end y) (sym h.1) (run_edited out place change (work m t) ∙ uncounted_edit place change m t h.2)))
+
+  pub edit_counted : Counts (Ok tt) t u → Went (edit_at place m.next (made change m) u) result n u → Went (run out (edited place change) (work m t)) result n u
+  edit_counted h g = subst (λ (ended : Ended ℕ). Went ended result n u) (sym (run_edited out place change (work m t) ∙ counted_edit place change m t u h.0 h.1)) g
+
 -- a refusal of an edit
 pub edit_refused : (place o : ℕ) (outcome : Result Contents ModelRefusal) (refusal : ModelRefusal) (t : Tally) → IsRefusal (model.named refusal) outcome → IsStop (named (r.Model place refusal)) (edit_at place o outcome t) t
 edit_refused place o outcome refusal t h = by (model.named refusal) h
@@ -222,7 +236,7 @@ module _ (out : Outcomes) where
   went_edited place o (Err refusal) t u p e = absurd cc
 
   made_edited : (change : Result Edit ModelRefusal) (m n : Contents) → made change m ≡ Ok n → IsEdited m n
-  made_edited (Ok edit) m n h = given-edited edit m n h
+  made_edited (Ok change) m n h = given-edited change m n h
   made_edited (Err refusal) m n h = absurd cc
 
   changed_edits : (place : ℕ) (change : Result Edit ModelRefusal) (w u : Work) (p : ℕ) → changed place change w ≡ went p u → IsEdited w.model u.model

@@ -14,11 +14,11 @@ use Rattle.wb_tools.specs.declared.tally.Tally.{Tally}
 use Rattle.wb_tools.proofs.RunLemmas.{edits, edited_next}
 
 module _ (given : Ended Unit) (t : Tally) where
-  refused_by : (known : Option ToolRefusal) → IsStop {Unit} known given t → IsRefusal known (accepted given)
+  refused_by : (known : Option ToolRefusal) → IsStop {A = Unit} known given t → IsRefusal known (accepted given)
   refused_by (Some refusal) h = ap accepted h
   refused_by None h = tt
 
-  rose_by : (known : Option ToolRefusal) (before now : ℕ) → now + 0 ≡ before + t.expressions → IsStop {Unit} known given t → Rose known (total given) before now
+  rose_by : (known : Option ToolRefusal) (before now : ℕ) → now + 0 ≡ before + t.expressions → IsStop {A = Unit} known given t → Rose known (total given) before now
   rose_by (Some refusal) before now e h = let n : total given ≡ t.expressions = ap total h in omega (arith, e, n)
   rose_by None before now e h = omega (arith, e, h)
 

@@ -1,5 +1,5 @@
 -- What the call that runs a tool answers, and leaves.
-use Rattle.std.specs.Prelude.{◌≡◌, ⊤, ⊥, ℕ, ◌+◌, ◌≤◌, Option, Some, None, Result, Ok, Err}
+use Rattle.std.specs.Prelude.{◌≡◌, ⊤, ℕ, ◌+◌, ◌≤◌, Option, Some, None, Result, Ok, Err}
 use Rattle.wb_base.specs.Answering.{IsRefusal}
 use Rattle.wb_store.specs.Contents.{Contents}
 use Rattle.wb_model.specs.declared.refusals.ModelRefusal.TheVariants as model

@@ -1,5 +1,7 @@
 ghost use Rattle.std.specs.Prelude.{◌≡◌, ◌+◌, ◌<◌, length, true, Ok, Some};
 ghost use Rattle.std.specs.List.{list_all};
+ghost use Rattle.wb_aql_check.specs.Checked.{IsChecked};
+ghost use Rattle.wb_aql_eval.specs.Outcomes.{Binds};
 ghost use Rattle.wb_aql_values.specs.Bounds.{is_bounded};
 ghost use Rattle.wb_spec_check.specs.Scopes.{scope_inside};
 ghost use Rattle.wb_viewpoint.specs.OperationTrees.{count_all};
@@ -8,7 +10,7 @@ ghost use Rattle.wb_model.specs.declared.edits.edit.Edit.TheVariants.{Remove};
 ghost use Rattle.wb_tools.specs.Bindings.{inside_with};
 ghost use Rattle.wb_tools.specs.Doings.{each};
 ghost use Rattle.wb_tools.specs.FeatureEdits.{edit_by};
-ghost use Rattle.wb_tools.specs.Operations.{act, change_context, create_instance, creating, for_each, if_true, move, set, turn, unset};
+ghost use Rattle.wb_tools.specs.Operations.{act, change_context, create_instance, creating, for_each, if_true, move, set, turn, unset, unsetting};
 ghost use Rattle.wb_tools.specs.Readiness.{AreReady, IsReady, IsReadyAround, one_more, same_scope};
 ghost use Rattle.wb_tools.specs.Runs.{Outcomes, Went, run, work};
 ghost use Rattle.wb_tools.specs.Tools.{perform};
@@ -23,6 +25,7 @@ use crate::setting::set_all;
 use crate::tally::Tally;
 use crate::unsetting::{take_all, unset_all};
 use std::alloc::Global;
+use wb_aql_check::Checked;
 use wb_aql_eval::{Env, Evaluator};
 use wb_json::Name;
 use wb_metamodel::{ClassId, ObjectId};
@@ -51,24 +54,37 @@ pub fn perform<E: Evaluator>(
     ensures counted { E.count steps.new + tally.old.expressions ≡ E.count steps.old + tally.new.expressions }
     ensures same { model.new.metamodel ≡ model.old.metamodel }
 {
-    let mut at = place;
-    for operation in operations {
-        act(
-            alloc,
-            spec,
-            tool,
-            at,
-            &operation.action,
-            operation.inside.as_slice(),
-            env,
-            context,
-            model,
-            tally,
-            steps,
-        )?;
-        at += 1 + count_all(operation.inside.as_slice());
+    match operations {
+        [] => Ok(()),
+        [first, rest @ ..] => {
+            let inside = first.inside.as_slice();
+            act(
+                alloc,
+                spec,
+                tool,
+                place,
+                &first.action,
+                inside,
+                env,
+                context,
+                model,
+                tally,
+                steps,
+            )?;
+            perform(
+                alloc,
+                spec,
+                tool,
+                place + (1 + count_all(inside)),
+                rest,
+                env,
+                context,
+                model,
+                tally,
+                steps,
+            )
+        }
     }
-    Ok(())
 }
 
 // One operation, with those inside it.
@@ -245,7 +261,7 @@ fn set<E: Evaluator>(
     tally: &mut Tally,
     steps: &mut E,
 ) -> Result<(), ToolRefusal>
-    requires ready { IsReady model.old.metamodel spec.now tool place env.now }
+    requires { IsReady model.old.metamodel spec.now tool place env.now }
     ensures done { Went (run E.outcome_by (set spec.now tool place feature.now env.now context) (work model.old tally.old)) result model.new tally.new }
     ensures counted { E.count steps.new + tally.old.expressions ≡ E.count steps.old + tally.new.expressions }
     ensures same { model.new.metamodel ≡ model.old.metamodel }
@@ -267,15 +283,36 @@ fn unset<E: Evaluator>(
     tally: &mut Tally,
     steps: &mut E,
 ) -> Result<(), ToolRefusal>
-    requires ready { IsReady model.old.metamodel spec.now tool place env.now }
+    requires { IsReady model.old.metamodel spec.now tool place env.now }
     ensures done { Went (run E.outcome_by (unset spec.now tool place feature.now env.now context) (work model.old tally.old)) result model.new tally.new }
     ensures counted { E.count steps.new + tally.old.expressions ≡ E.count steps.old + tally.new.expressions }
     ensures same { model.new.metamodel ≡ model.old.metamodel }
 {
-    if spec.tool_expression(tool, place).is_none() {
-        return unset_all(alloc, place, context, feature, model, tally);
+    match spec.tool_expression(tool, place) {
+        Some(e) => take_values(alloc, place, e, feature, env, context, model, tally, steps),
+        None => unset_all(alloc, place, context, feature, model, tally),
     }
-    let value = asked_at(alloc, spec, tool, place, env, model, tally, steps)?;
+}
+
+// Takes the values of an expression from a feature of the context.
+fn take_values<E: Evaluator>(
+    alloc: Global,
+    place: u32,
+    e: &Checked,
+    feature: &Name,
+    env: &Env,
+    context: ObjectId,
+    model: &mut Model,
+    tally: &mut Tally,
+    steps: &mut E,
+) -> Result<(), ToolRefusal>
+    requires binds { Binds model.old.metamodel e.now.1 env.now }
+    requires checked { IsChecked model.old.metamodel e.now }
+    ensures done { Went (run E.outcome_by (unsetting place (Some e.now) feature.now env.now context) (work model.old tally.old)) result model.new tally.new }
+    ensures counted { E.count steps.new + tally.old.expressions ≡ E.count steps.old + tally.new.expressions }
+    ensures same { model.new.metamodel ≡ model.old.metamodel }
+{
+    let value = evaluate(alloc, place, e, env, model, tally, steps)?;
     take_all(alloc, place, context, feature, value.members(), model, tally)
 }
 
@@ -292,7 +329,7 @@ fn move_to<E: Evaluator>(
     tally: &mut Tally,
     steps: &mut E,
 ) -> Result<(), ToolRefusal>
-    requires ready { IsReady model.old.metamodel spec.now tool place env.now }
+    requires { IsReady model.old.metamodel spec.now tool place env.now }
     ensures done { Went (run E.outcome_by (move spec.now tool place reference.now env.now context) (work model.old tally.old)) result model.new tally.new }
     ensures counted { E.count steps.new + tally.old.expressions ≡ E.count steps.old + tally.new.expressions }
     ensures same { model.new.metamodel ≡ model.old.metamodel }
@@ -325,7 +362,7 @@ fn run_for<E: Evaluator>(
     spec: &CheckedViewpoint,
     tool: u32,
     place: u32,
-    iterator: &Name,
+    variable: &Name,
     inside: &[Operation],
     env: &Env,
     context: ObjectId,
@@ -333,9 +370,9 @@ fn run_for<E: Evaluator>(
     tally: &mut Tally,
     steps: &mut E,
 ) -> Result<(), ToolRefusal>
-    requires ready { IsReadyAround model.old.metamodel spec.now tool place (one_more iterator.now) (trees_of inside.now) env.now }
+    requires ready { IsReadyAround model.old.metamodel spec.now tool place (one_more variable.now) (trees_of inside.now) env.now }
     requires fits { place + count_all (trees_of inside.now) < 4294967295 }
-    ensures done { Went (run E.outcome_by (for_each spec.now tool place iterator.now (perform spec.now tool (place + 1) (trees_of inside.now)) env.now context) (work model.old tally.old)) result model.new tally.new }
+    ensures done { Went (run E.outcome_by (for_each spec.now tool place variable.now (perform spec.now tool (place + 1) (trees_of inside.now)) env.now context) (work model.old tally.old)) result model.new tally.new }
     ensures counted { E.count steps.new + tally.old.expressions ≡ E.count steps.old + tally.new.expressions }
     ensures same { model.new.metamodel ≡ model.old.metamodel }
 {
@@ -346,7 +383,7 @@ fn run_for<E: Evaluator>(
         tool,
         place,
         items.members(),
-        iterator,
+        variable,
         inside,
         env,
         context,
@@ -364,7 +401,7 @@ fn run_turns<E: Evaluator>(
     tool: u32,
     place: u32,
     items: &[Scalar],
-    iterator: &Name,
+    variable: &Name,
     inside: &[Operation],
     env: &Env,
     context: ObjectId,
@@ -372,10 +409,10 @@ fn run_turns<E: Evaluator>(
     tally: &mut Tally,
     steps: &mut E,
 ) -> Result<(), ToolRefusal>
-    requires ready { IsReadyAround model.old.metamodel spec.now tool place (one_more iterator.now) (trees_of inside.now) env.now }
+    requires ready { IsReadyAround model.old.metamodel spec.now tool place (one_more variable.now) (trees_of inside.now) env.now }
     requires bounded { list_all (is_bounded model.old.metamodel) items.now ≡ true }
     requires fits { place + count_all (trees_of inside.now) < 4294967295 }
-    ensures done { Went (run E.outcome_by (each (turn iterator.now (perform spec.now tool (place + 1) (trees_of inside.now)) env.now context) items.now) (work model.old tally.old)) result model.new tally.new }
+    ensures done { Went (run E.outcome_by (each (turn variable.now (perform spec.now tool (place + 1) (trees_of inside.now)) env.now context) items.now) (work model.old tally.old)) result model.new tally.new }
     ensures counted { E.count steps.new + tally.old.expressions ≡ E.count steps.old + tally.new.expressions }
     ensures same { model.new.metamodel ≡ model.old.metamodel }
 {
@@ -386,7 +423,7 @@ fn run_turns<E: Evaluator>(
             tool,
             place,
             item,
-            iterator,
+            variable,
             inside,
             env,
             context_with(item, context),

@@ -1,25 +1,29 @@
-ghost use Rattle.std.specs.Prelude.{◌≡◌, ◌+◌, ◌≤◌, ◌<◌, length, IfErr, OnOk};
+ghost use Rattle.std.specs.Prelude.{◌≡◌, ◌+◌, ◌≤◌, ◌<◌, length, Some, IfErr, OnOk};
+ghost use Rattle.wb_aql_check.specs.Checked.{IsChecked};
 ghost use Rattle.wb_aql_eval.specs.Outcomes.{Binds};
 ghost use Rattle.wb_model.specs.EditLaws.{AreEdited};
 ghost use Rattle.wb_spec_check.specs.Checked.{IsCheckedBy};
 ghost use Rattle.wb_tools.specs.Answers.{Counted, IsPlain, Ran};
-ghost use Rattle.wb_tools.specs.Operations.{truth_at};
+ghost use Rattle.wb_viewpoint.specs.OperationTrees.{count_all};
+ghost use Rattle.wb_viewpoint.specs.View.{trees_of};
 ghost use Rattle.wb_tools.specs.Readiness.{IsReady, variables_of};
 ghost use Rattle.wb_tools.specs.Runs.{Went, named, run, work};
-ghost use Rattle.wb_tools.specs.Tools.{evaluations, permission, permit, ran, tool_of};
+ghost use Rattle.wb_tools.specs.Tools.{evaluations, operations_of, permission, permission_of, permit, ran, tool_of};
 
-use crate::asking::{asked_at, truth_at};
+use crate::asking::{evaluate, truth_at};
 use crate::bindings::in_context;
 use crate::performing::perform;
 use crate::refusals::ToolRefusal;
 use crate::tally::Tally;
 use std::alloc::Global;
+use wb_aql_check::Checked;
 use wb_aql_eval::{Env, Evaluator};
 use wb_aql_values::Value;
 use wb_base::Duplicate;
 use wb_metamodel::ObjectId;
 use wb_model::{Model, ModelRefusal};
 use wb_spec_check::CheckedViewpoint;
+use wb_viewpoint::Operation;
 
 /// Runs a tool on a copy of the model, which is put in place where all is accepted. Answers how many expressions were evaluated.
 pub fn run_tool<E: Evaluator>(
@@ -88,20 +92,29 @@ fn run_all<E: Evaluator>(
 {
     let nearer = in_context(alloc, context, env)?;
     permission(alloc, spec, tool, &nearer, model, tally, steps)?;
-    let content = spec.viewpoint().content();
-    let operations = &content.tools.as_slice()[tool as usize].operations;
+    let operations = operations_of(spec, tool);
     perform(
         alloc,
         spec,
         tool,
         1,
-        operations.as_slice(),
+        operations,
         &nearer,
         context,
         model,
         tally,
         steps,
     )
+}
+
+#[tactic(auto, using(crate::proofs::Checked::few_operations))]
+fn operations_of(spec: &CheckedViewpoint, tool: u32) -> &[Operation]
+    requires { tool < length spec.now.0.tools }
+    ensures same { trees_of result.now ≡ operations_of spec.now tool }
+    ensures few { count_all (operations_of spec.now tool) ≤ 256 }
+{
+    let content = spec.viewpoint().content();
+    content.tools.as_slice()[tool as usize].operations.as_slice()
 }
 
 // The precondition is true, or absent.
@@ -118,10 +131,27 @@ fn permission<E: Evaluator>(
     ensures done { Went (run E.outcome_by (permission spec.now tool env.now) (work model.now tally.old)) result model.now tally.new }
     ensures counted { E.count steps.new + tally.old.expressions ≡ E.count steps.old + tally.new.expressions }
 {
-    if spec.tool_expression(tool, 0).is_none() {
-        return Ok(());
+    match spec.tool_expression(tool, 0) {
+        Some(e) => permission_of(alloc, e, env, model, tally, steps),
+        None => Ok(()),
     }
-    let value = asked_at(alloc, spec, tool, 0, env, model, tally, steps)?;
+}
+
+// A precondition is true.
+fn permission_of<E: Evaluator>(
+    alloc: Global,
+    e: &Checked,
+    env: &Env,
+    model: &Model,
+    tally: &mut Tally,
+    steps: &mut E,
+) -> Result<(), ToolRefusal>
+    requires binds { Binds model.now.metamodel e.now.1 env.now }
+    requires checked { IsChecked model.now.metamodel e.now }
+    ensures done { Went (run E.outcome_by (permission_of (Some e.now) env.now) (work model.now tally.old)) result model.now tally.new }
+    ensures counted { E.count steps.new + tally.old.expressions ≡ E.count steps.old + tally.new.expressions }
+{
+    let value = evaluate(alloc, 0, e, env, model, tally, steps)?;
     permit(&value)
 }
 
