@@ -30,7 +30,7 @@ use Rattle.wb_spec_check.specs.Mappings.{expression_at}
 use Rattle.wb_spec_check.specs.Places.{◌▸◌, ◌!◌, diagram}
 use Rattle.wb_spec_check.specs.Scopes.{scope_inside, tool_scope}
 use Rattle.wb_spec_check.specs.Tools.{action_at, operation_at, operations_from, tool_at}
-use Rattle.wb_spec_check.specs.Units.{Expression, class_of_operation, tool_expression}
+use Rattle.wb_spec_check.specs.Units.{Expression}
 use Rattle.wb_spec_check.specs.Validated.{Validated, Finding, good, ◌<*>◌, each_from}
 use Rattle.wb_spec_check.specs.declared.checked_tools.CheckedOperation.{CheckedOperation}
 use Rattle.wb_spec_check.specs.declared.checked_tools.CheckedTool.{CheckedTool}
@@ -40,6 +40,7 @@ use Rattle.wb_answers.proofs.Yields.{any, OfSome, Yields, yields_at, yields_both
 use Rattle.wb_tools.specs.Bindings.{in_context}
 use Rattle.wb_tools.specs.Readiness.{AreFit, AreReady, Fits, FitsAt, IsReady, variables_of, with_self}
 use Rattle.wb_tools.specs.Tools.{operations_of}
+use Rattle.wb_tools.proofs.Rows.{class_there, expression_there, no_class_there, precondition_there}
 use Rattle.wb_tools.proofs.Variables.{binds_first}
 
 -- ---- one operation
@@ -100,27 +101,26 @@ at_length (x ∷ before) y after = at_length before y after
 
 module _ (mm : Metamodel) (spec : Specification) (tool : ℕ) where
   -- a row in its place
-  row_fits : (scope : List (List ℕ)) (before after : List CheckedOperation) (row : CheckedOperation) (rows : List CheckedOperation) → Stands spec tool before (row ∷ rows) after → RowFits mm scope row → FitsAt mm spec tool (1 + length before) scope
-  unfolding tool_expression class_of_operation
+  row_fits : (scope : List (List ℕ)) (before after : List CheckedOperation) (row : CheckedOperation) (rows : List CheckedOperation) → Stands spec tool before (row ∷ rows) after → RowFits mm scope row → FitsAt mm spec tool (suc (length before)) scope
   row_fits scope before after row rows s fit =
       let here : slice_get s.own.operations (length before) ≡ Some row = ap (λ (xs : List CheckedOperation). slice_get xs (length before)) s.are ∙ at_length before row (rows ++ after) in
-      let whole : slice_get spec.1.tools tool ≡ Some s.own = s.there in
-      (rw (whole, here) fit.0, rw (whole, here) fit.1)
+      (subst (λ (it : Option Expression). IfSome it (Fits mm scope)) (sym (expression_there spec tool s.own s.there (length before) row here)) fit.0,
+      subst (λ (it : Option ℕ). IfSome it (λ class. class < length mm.classes)) (sym (class_there spec tool s.own s.there (length before) row here)) fit.1)
 
   abbrev RowsFit : List (List ℕ) → Trees → List CheckedOperation → Type 0
-  RowsFit scope xs rows = (length rows ≡ count_all xs) × ((before after : List CheckedOperation) → Stands spec tool before rows after → AreFit mm spec tool (1 + length before) scope xs)
+  RowsFit scope xs rows = (length rows ≡ count_all xs) × ((before after : List CheckedOperation) → Stands spec tool before rows after → AreFit mm spec tool (suc (length before)) scope xs)
 
   abbrev OneFits : List (List ℕ) → Tree → List CheckedOperation → Type 0
-  OneFits scope x rows = (length rows ≡ count x) × ((before after : List CheckedOperation) → Stands spec tool before rows after → (ts : Trees) → AreFit mm spec tool ((1 + length before) + count x) scope ts → AreFit mm spec tool (1 + length before) scope (trees x ts))
+  OneFits scope x rows = (length rows ≡ count x) × ((before after : List CheckedOperation) → Stands spec tool before rows after → (ts : Trees) → AreFit mm spec tool ((suc (length before)) + count x) scope ts → AreFit mm spec tool (suc (length before)) scope (trees x ts))
 
   one_fits : (scope : List (List ℕ)) (n : ℕ) (action : Action) (inside : Trees) (row : CheckedOperation) (rows : List CheckedOperation) → RowFits mm scope row → RowsFit (scope_inside scope action) inside rows → OneFits scope (operation n action inside) (row ∷ rows)
   unfolding AreFit
   one_fits scope n action inside row rows fit fits = (ap (λ k. suc k) fits.0, λ before after s ts rest. (row_fits scope before after row rows s fit, within before after s, rest))
     where
-      within : (before after : List CheckedOperation) → Stands spec tool before (row ∷ rows) after → AreFit mm spec tool ((1 + length before) + 1) (scope_inside scope action) inside
+      within : (before after : List CheckedOperation) → Stands spec tool before (row ∷ rows) after → AreFit mm spec tool ((suc (length before)) + 1) (scope_inside scope action) inside
       within before after s =
-          let place : length (before ++ row ∷ []) ≡ length before + 1 = length-append before (row ∷ []) in
-          subst (λ k. AreFit mm spec tool (1 + k) (scope_inside scope action) inside) place
+          let place : suc (length (before ++ row ∷ [])) ≡ suc (length before) + 1 = (let e = length-append before (row ∷ []) in omega (arith, e)) in
+          subst (λ (k : ℕ). AreFit mm spec tool k (scope_inside scope action) inside) place
           (fits.1 (before ++ row ∷ []) after (record { own = s.own; there = s.there; are = s.are ∙ sym (append_assoc before (row ∷ []) (rows ++ after)) }))
 
   more_fit : (scope : List (List ℕ)) (x : Tree) (xs : Trees) (ys zs : List CheckedOperation) → OneFits scope x ys → RowsFit scope xs zs → RowsFit scope (trees x xs) (ys ++ zs)
@@ -128,10 +128,10 @@ module _ (mm : Metamodel) (spec : Specification) (tool : ℕ) where
       (length-append ys zs ∙ (ap (λ k. k + length zs) one.0 ∙ ap (λ k. count x + k) others.0),
       λ before after s. one.1 before (zs ++ after) (record { own = s.own; there = s.there; are = s.are ∙ ap (λ r. before ++ r) (append_assoc ys zs after) }) xs (rest before after s))
     where
-      rest : (before after : List CheckedOperation) → Stands spec tool before (ys ++ zs) after → AreFit mm spec tool ((1 + length before) + count x) scope xs
+      rest : (before after : List CheckedOperation) → Stands spec tool before (ys ++ zs) after → AreFit mm spec tool ((suc (length before)) + count x) scope xs
       rest before after s =
-          let place : length (before ++ ys) ≡ length before + count x = length-append before ys ∙ ap (λ k. length before + k) one.0 in
-          subst (λ k. AreFit mm spec tool (1 + k) scope xs) place
+          let place : suc (length (before ++ ys)) ≡ suc (length before) + count x = (let e = length-append before ys in let f = one.0 in omega (arith, e, f)) in
+          subst (λ (k : ℕ). AreFit mm spec tool k scope xs) place
           (others.1 (before ++ ys) after (record { own = s.own; there = s.there; are = s.are ∙ (ap (λ r. before ++ r) (append_assoc ys zs after) ∙ sym (append_assoc before ys (zs ++ after))) }))
 
   mutual
@@ -193,11 +193,10 @@ module _ (mm : Metamodel) (spec : Specification) (n : ℕ) (tool : Tool) (is : I
 
   -- the precondition, at place 0
   pub precondition_ready : FitsAt mm spec n 0 (tool_scope tool.kind)
-  unfolding tool_expression class_of_operation
   precondition_ready =
-      let whole : slice_get spec.1.tools n ≡ Some own_of.0 = own_of.1 in
       let fits : IfSome own_of.0.precondition (Fits mm (tool_scope tool.kind)) = if_some (Fits mm (tool_scope tool.kind)) own_of.0.precondition own_of.2.0 in
-      (rw whole fits, rw whole tt)
+      (subst (λ (it : Option Expression). IfSome it (Fits mm (tool_scope tool.kind))) (sym (precondition_there spec n own_of.0 own_of.1)) fits,
+      subst (λ (it : Option ℕ). IfSome it (λ class. class < length mm.classes)) (sym (no_class_there spec n own_of.0 own_of.1)) tt)
 
   -- the operations, from place 1 on
   pub operations_ready : AreFit mm spec n 1 (tool_scope tool.kind) tool.operations

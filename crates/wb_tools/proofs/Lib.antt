@@ -2,6 +2,7 @@ pub mod Asked
 pub mod Checked
 pub mod FeatureLemmas
 pub mod Ready
+pub mod Rows
 pub mod RunLemmas
 pub mod Sequences
 pub mod Variables

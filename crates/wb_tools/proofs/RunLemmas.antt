@@ -145,7 +145,7 @@ module _ (out : Outcomes) where
   stops A r.ToolTooLong t = refl
   stops A r.NoMemory t = omega arith
 
-  pub run_refuse : {A : Type 0} (refusal : ToolRefusal) (w : Work) → run out (refuse {A = A} refusal) w ≡ stopped refusal w.tally.expressions
+  pub run_refuse : {A : Type 0} (refusal : ToolRefusal) (w : Work) → run {A = A} out (refuse refusal) w ≡ stopped refusal w.tally.expressions
   unfolding run
   run_refuse refusal w = refl
 

@@ -28,7 +28,7 @@ use Rattle.wb_tools.proofs.performing.+perform.Goals as goal
 pub change_context-returns-in_err-next-clause-done : goal.change_context-returns-in_err-next-clause-done
 unfolding change_context
 change_context-returns-in_err-next-clause-done g t c =
-    let k = c.from_residual-in_err-next in
+    let k = c.from_residual in
     stopped_first g.E.Evaluator.outcome_by (context_at c.args.spec.now c.args.tool c.args.place c.args.env.now) (λ p. (perform c.args.spec.now c.args.tool (c.args.place + 1) (trees_of c.args.inside.now)) (in_context p c.args.env.now) p) (work c.args.model.now c.args.tally.now) k.result c.in_err-next.field-0.0 c.args.model.now c.context_at.new.tally k.ensures.1 c.in_err-next.ensures.done
 
 pub change_context-returns-in_err-nearer-clause-done : goal.change_context-returns-in_err-nearer-clause-done
@@ -150,8 +150,8 @@ pub perform-returns-in_err-act-in-len1-up-clause-done : goal.perform-returns-in_
 perform-returns-in_err-act-in-len1-up-clause-done g t c =
     let x = c.first-item.result in
     let here : c.args.operations.now ≡ x ∷ (take (length c.args.operations.now - 1) (drop 1 c.args.operations.now)) = split c.args.operations.now x (omega arith) c.first-item.is in
-    perform_stopped g.E.Evaluator.outcome_by c.args.spec.now c.args.tool c.args.env.now c.args.context c.args.place c.args.operations.now x (take (length c.args.operations.now - 1) (drop 1 c.args.operations.now)) (work c.args.model.now c.args.tally.now) here c.from_residual.result c.in_err-act.field-0.0 c.act.new.model c.act.new.tally c.from_residual.ensures.1
-    (subst (λ (ins : List Operation). IsStop (named c.in_err-act.field-0.0) (run g.E.Evaluator.outcome_by (act c.args.spec.now c.args.tool c.args.place (out-Operation x).action (perform c.args.spec.now c.args.tool (c.args.place + 1) (trees_of ins)) c.args.env.now c.args.context) (work c.args.model.now c.args.tally.now)) c.act.new.tally) c.as_slice-inside.ensures c.in_err-act.ensures.done)
+    perform_stopped g.E.Evaluator.outcome_by c.args.spec.now c.args.tool c.args.env.now c.args.context c.args.place c.args.operations.now x (take (length c.args.operations.now - 1) (drop 1 c.args.operations.now)) (work c.args.model.now c.args.tally.now) here c.from_residual.result c.in_err-act-in-len1-up.field-0.0 c.act.new.model c.act.new.tally c.from_residual.ensures.1
+    (subst (λ (ins : List Operation). IsStop (named c.in_err-act-in-len1-up.field-0.0) (run g.E.Evaluator.outcome_by (act c.args.spec.now c.args.tool c.args.place (out-Operation x).action (perform c.args.spec.now c.args.tool (c.args.place + 1) (trees_of ins)) c.args.env.now c.args.context) (work c.args.model.now c.args.tally.now)) c.act.new.tally) c.as_slice-inside.ensures c.in_err-act-in-len1-up.ensures.done)
 
 pub perform-count_all-requires : goal.perform-count_all-requires
 perform-count_all-requires g t c =
@@ -192,7 +192,7 @@ perform-perform-requires g t c =
     let r1 : AreReady c.args.model.now.metamodel c.args.spec.now c.args.tool c.args.place (trees_of (x ∷ (take (length c.args.operations.now - 1) (drop 1 c.args.operations.now)))) c.args.env.now = r0 in
     let r2 : AreReady c.args.model.now.metamodel c.args.spec.now c.args.tool (c.args.place + places x) (trees_of (take (length c.args.operations.now - 1) (drop 1 c.args.operations.now))) c.args.env.now = ready_rest c.args.model.now.metamodel c.args.spec.now c.args.tool c.args.place c.args.env.now x (trees_of (take (length c.args.operations.now - 1) (drop 1 c.args.operations.now))) r0 in
     let r3 : AreReady c.args.model.now.metamodel c.args.spec.now c.args.tool (c.args.place + (1 + c.count_all.result)) (trees_of (take (length c.args.operations.now - 1) (drop 1 c.args.operations.now))) c.args.env.now = subst (λ (place : ℕ). AreReady c.args.model.now.metamodel c.args.spec.now c.args.tool place (trees_of (take (length c.args.operations.now - 1) (drop 1 c.args.operations.now))) c.args.env.now) p r2 in
-    let r : AreReady c.act.new.model.metamodel c.args.spec.now c.args.tool (c.args.place + (1 + c.count_all.result)) (trees_of (take (length c.args.operations.now - 1) (drop 1 c.args.operations.now))) c.args.env.now = subst (λ (mm : Metamodel). AreReady mm c.args.spec.now c.args.tool (c.args.place + (1 + c.count_all.result)) (trees_of (take (length c.args.operations.now - 1) (drop 1 c.args.operations.now))) c.args.env.now) (sym c.in_ok-act.ensures.same) r3 in
+    let r : AreReady c.act.new.model.metamodel c.args.spec.now c.args.tool (c.args.place + (1 + c.count_all.result)) (trees_of (take (length c.args.operations.now - 1) (drop 1 c.args.operations.now))) c.args.env.now = subst (λ (mm : Metamodel). AreReady mm c.args.spec.now c.args.tool (c.args.place + (1 + c.count_all.result)) (trees_of (take (length c.args.operations.now - 1) (drop 1 c.args.operations.now))) c.args.env.now) (sym c.in_ok-act-in-len1-up.ensures.same) r3 in
     let q = c.count_all.ensures in
     search rules
 
@@ -205,7 +205,7 @@ perform-returns-in_ok-act-in-len1-up-clause-done g t c =
     let f : c.args.place + count_all (trees_of c.args.operations.now) < 4294967296 = c.requires.fits in
     let p : c.args.place + places x ≡ c.args.place + (1 + c.count_all.result) = (let r = c.count_all.ensures in omega (arith, k, r)) in
     perform_more g.E.Evaluator.outcome_by c.args.spec.now c.args.tool c.args.env.now c.args.context c.args.place c.args.operations.now x (take (length c.args.operations.now - 1) (drop 1 c.args.operations.now)) (work c.args.model.now c.args.tally.now) here (work c.act.new.model c.act.new.tally) c.perform.result c.perform.new.model c.perform.new.tally
-    (subst (λ (ins : List Operation). run g.E.Evaluator.outcome_by (act c.args.spec.now c.args.tool c.args.place (out-Operation x).action (perform c.args.spec.now c.args.tool (c.args.place + 1) (trees_of ins)) c.args.env.now c.args.context) (work c.args.model.now c.args.tally.now) ≡ went (tt {0}) (work c.act.new.model c.act.new.tally)) c.as_slice-inside.ensures c.in_ok-act.ensures.done)
+    (subst (λ (ins : List Operation). run g.E.Evaluator.outcome_by (act c.args.spec.now c.args.tool c.args.place (out-Operation x).action (perform c.args.spec.now c.args.tool (c.args.place + 1) (trees_of ins)) c.args.env.now c.args.context) (work c.args.model.now c.args.tally.now) ≡ went (tt {0}) (work c.act.new.model c.act.new.tally)) c.as_slice-inside.ensures c.in_ok-act-in-len1-up.ensures.done)
     (subst (λ (place : ℕ). Went (run g.E.Evaluator.outcome_by (perform c.args.spec.now c.args.tool place (trees_of (take (length c.args.operations.now - 1) (drop 1 c.args.operations.now))) c.args.env.now c.args.context) (work c.act.new.model c.act.new.tally)) c.perform.result c.perform.new.model c.perform.new.tally) (sym p) c.perform.ensures.done)
 
 pub perform-returns-in-empty-clause-done : goal.perform-returns-in-empty-clause-done

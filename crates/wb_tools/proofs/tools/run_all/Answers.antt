@@ -12,7 +12,7 @@ use Rattle.wb_tools.proofs.tools.run_all.Goals as goal
 
 pub returns-in_err-nearer-clause-done : goal.returns-in_err-nearer-clause-done
 returns-in_err-nearer-clause-done g c =
-    let k = c.from_residual-in_err-nearer in
+    let k = c.from_residual in
     no_memory g.E.Evaluator.outcome_by (tool_of c.args.spec.now c.args.tool c.args.env.now c.args.context) (work c.args.model.now c.args.tally.now) k.result c.args.model.now k.ensures.1
 
 pub permission-requires : goal.permission-requires

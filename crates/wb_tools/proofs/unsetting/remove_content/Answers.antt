@@ -15,4 +15,4 @@ returns-in_err-objects-clause-done c =
 
 pub returns-clause-done : goal.returns-clause-done
 returns-clause-done c =
-    λ out. subst (λ (xs : List ℕ). Went (run out (each (λ p. edit_by c.args.place (Ok (Remove p))) xs) (work c.args.model.now c.args.tally.now)) c.remove_each.result c.remove_each.new.model c.remove_each.new.tally) (c.as_slice.ensures ∙ (c.in_ok-objects.ensures ∙ ap objects_in c.get.ensures)) (c.remove_each.ensures.done out)
+    λ out. subst (λ (xs : List ℕ). Went (run out (each (λ p. edit_by c.args.place (Ok (Remove p))) xs) (work c.args.model.now c.args.tally.now)) c.remove_each.result c.remove_each.new.model c.remove_each.new.tally) (c.as_slice.ensures.value ∙ (c.in_ok-objects.ensures ∙ ap objects_in c.get.ensures)) (c.remove_each.ensures.done out)
