@@ -103,9 +103,10 @@ module _ (mm : Metamodel) (spec : Specification) (tool : ℕ) where
   -- a row in its place
   row_fits : (scope : List (List ℕ)) (before after : List CheckedOperation) (row : CheckedOperation) (rows : List CheckedOperation) → Stands spec tool before (row ∷ rows) after → RowFits mm scope row → FitsAt mm spec tool (suc (length before)) scope
   row_fits scope before after row rows s fit =
-      let here : slice_get s.own.operations (length before) ≡ Some row = ap (λ (xs : List CheckedOperation). slice_get xs (length before)) s.are ∙ at_length before row (rows ++ after) in
-      (subst (λ (it : Option Expression). IfSome it (Fits mm scope)) (sym (expression_there spec tool s.own s.there (length before) row here)) fit.0,
-      subst (λ (it : Option ℕ). IfSome it (λ class. class < length mm.classes)) (sym (class_there spec tool s.own s.there (length before) row here)) fit.1)
+      let here : slice_get s.own.operations (length before) ≡ Some row = ap (λ (xs : List CheckedOperation). slice_get xs (length before)) s.are ∙ at_length before row (rows ++ after) in (
+        subst (λ (it : Option Expression). IfSome it (Fits mm scope)) (sym (expression_there spec tool s.own s.there (length before) row here)) fit.0,
+        subst (λ (it : Option ℕ). IfSome it (λ class. class < length mm.classes)) (sym (class_there spec tool s.own s.there (length before) row here)) fit.1,
+      )
 
   abbrev RowsFit : List (List ℕ) → Trees → List CheckedOperation → Type 0
   RowsFit scope xs rows = (length rows ≡ count_all xs) × ((before after : List CheckedOperation) → Stands spec tool before rows after → AreFit mm spec tool (suc (length before)) scope xs)
@@ -124,9 +125,10 @@ module _ (mm : Metamodel) (spec : Specification) (tool : ℕ) where
           (fits.1 (before ++ row ∷ []) after (record { own = s.own; there = s.there; are = s.are ∙ sym (append_assoc before (row ∷ []) (rows ++ after)) }))
 
   more_fit : (scope : List (List ℕ)) (x : Tree) (xs : Trees) (ys zs : List CheckedOperation) → OneFits scope x ys → RowsFit scope xs zs → RowsFit scope (trees x xs) (ys ++ zs)
-  more_fit scope x xs ys zs one others =
-      (length-append ys zs ∙ (ap (λ k. k + length zs) one.0 ∙ ap (λ k. count x + k) others.0),
-      λ before after s. one.1 before (zs ++ after) (record { own = s.own; there = s.there; are = s.are ∙ ap (λ r. before ++ r) (append_assoc ys zs after) }) xs (rest before after s))
+  more_fit scope x xs ys zs one others = (
+    length-append ys zs ∙ (ap (λ k. k + length zs) one.0 ∙ ap (λ k. count x + k) others.0),
+    λ before after s. one.1 before (zs ++ after) (record { own = s.own; there = s.there; are = s.are ∙ ap (λ r. before ++ r) (append_assoc ys zs after) }) xs (rest before after s),
+  )
     where
       rest : (before after : List CheckedOperation) → Stands spec tool before (ys ++ zs) after → AreFit mm spec tool ((suc (length before)) + count x) scope xs
       rest before after s =
@@ -136,6 +138,7 @@ module _ (mm : Metamodel) (spec : Specification) (tool : ℕ) where
 
   mutual
     unfolding operation_at operations_from AreFit
+
     operation_fits : (scope : List (List ℕ)) (place : Place) (x : Tree) → Yields (OneFits scope x) (operation_at mm scope place x)
     operation_fits scope place (operation n action inside) =
         yields_both (yields_both (yields_good _ (λ row fit rows fits. one_fits scope n action inside row rows fit fits)) (action_fits mm scope place action)) (operations_fit (scope_inside scope action) (place ▸ codes "do") 0 inside)
@@ -194,9 +197,10 @@ module _ (mm : Metamodel) (spec : Specification) (n : ℕ) (tool : Tool) (is : I
   -- the precondition, at place 0
   pub precondition_ready : FitsAt mm spec n 0 (tool_scope tool.kind)
   precondition_ready =
-      let fits : IfSome own_of.0.precondition (Fits mm (tool_scope tool.kind)) = if_some (Fits mm (tool_scope tool.kind)) own_of.0.precondition own_of.2.0 in
-      (subst (λ (it : Option Expression). IfSome it (Fits mm (tool_scope tool.kind))) (sym (precondition_there spec n own_of.0 own_of.1)) fits,
-      subst (λ (it : Option ℕ). IfSome it (λ class. class < length mm.classes)) (sym (no_class_there spec n own_of.0 own_of.1)) tt)
+      let fits : IfSome own_of.0.precondition (Fits mm (tool_scope tool.kind)) = if_some (Fits mm (tool_scope tool.kind)) own_of.0.precondition own_of.2.0 in (
+        subst (λ (it : Option Expression). IfSome it (Fits mm (tool_scope tool.kind))) (sym (precondition_there spec n own_of.0 own_of.1)) fits,
+        subst (λ (it : Option ℕ). IfSome it (λ class. class < length mm.classes)) (sym (no_class_there spec n own_of.0 own_of.1)) tt,
+      )
 
   -- the operations, from place 1 on
   pub operations_ready : AreFit mm spec n 1 (tool_scope tool.kind) tool.operations

@@ -45,10 +45,17 @@ picked P false x y f g = g refl
 nothing_joined : (env : Env) → env ≡ joined env no_variables
 nothing_joined env = λ i. record { names = sym (append-nil env.names) i; values = sym (append-nil env.values) i }
 
-pub none_left : (env : Env) (name : List ℕ) (ns : List (List ℕ)) (vs : List Value) → length ns ≡ 0 → env ≡ joined env (others name ns vs)
+pub no_names : (env : Env) (name : List ℕ) (ns : List (List ℕ)) (vs : List Value) → length ns ≡ 0 → env ≡ joined env (others name ns vs)
 unfolding others
-none_left env name [] vs h = nothing_joined env
-none_left env name (n ∷ ns) vs h = absurd (omega (arith, h))
+no_names env name [] vs h = nothing_joined env
+no_names env name (n ∷ ns) vs h = absurd (omega (arith, h))
+
+pub no_values : (env : Env) (name : List ℕ) (ns : List (List ℕ)) (vs : List Value) → length vs ≡ 0 → env ≡ joined env (others name ns vs)
+unfolding others
+no_values env name [] [] h = nothing_joined env
+no_values env name (n ∷ ns) [] h = nothing_joined env
+no_values env name [] (v ∷ vs) h = absurd (omega (arith, h))
+no_values env name (n ∷ ns) (v ∷ vs) h = absurd (omega (arith, h))
 
 module _ (name : List ℕ) where
   others_names : (ns : List (List ℕ)) (vs : List Value) (q : List ℕ) → length vs ≡ length ns → (same_name q name || has q (others name ns vs).names) ≡ (same_name q name || has q ns)

@@ -95,12 +95,15 @@ fn put_others(
 ) -> Result<(), AllocError>
     ensures { OnOk result (nearer.new ≡ joined nearer.old (others name.now names.now values.now)) }
 {
-    match (names, values) {
-        ([known, names @ ..], [value, values @ ..]) => {
-            put_other(alloc, name, known, value, nearer)?;
-            put_others(alloc, name, names, values, nearer)
-        }
-        _ => Ok(()),
+    match names {
+        [] => Ok(()),
+        [known, names @ ..] => match values {
+            [] => Ok(()),
+            [value, values @ ..] => {
+                put_other(alloc, name, known, value, nearer)?;
+                put_others(alloc, name, names, values, nearer)
+            }
+        },
     }
 }
 

@@ -118,16 +118,23 @@ fn act<E: Evaluator>(
             variable,
             ..
         } => create_instance(
-            alloc, spec, tool, place, reference, variable, inside, env, context, model, tally, steps,
+            alloc, spec, tool, place, reference, variable, inside, env, context, model, tally,
+            steps,
         ),
         Action::Set { feature, .. } => {
-            set(alloc, spec, tool, place, feature, env, context, model, tally, steps)
+            set(
+                alloc, spec, tool, place, feature, env, context, model, tally, steps,
+            )
         }
         Action::Unset { feature, .. } => {
-            unset(alloc, spec, tool, place, feature, env, context, model, tally, steps)
+            unset(
+                alloc, spec, tool, place, feature, env, context, model, tally, steps,
+            )
         }
         Action::Move { reference, .. } => {
-            move_to(alloc, spec, tool, place, reference, env, context, model, tally, steps)
+            move_to(
+                alloc, spec, tool, place, reference, env, context, model, tally, steps,
+            )
         }
         Action::Remove => remove(alloc, place, context, model, tally),
         Action::For { iterator, .. } => run_for(
@@ -199,8 +206,8 @@ fn create_instance<E: Evaluator>(
 {
     match spec.class_of_operation(tool, place) {
         Some(class) => create(
-            alloc, spec, tool, place, class, reference, variable, inside, env, context, model, tally,
-            steps,
+            alloc, spec, tool, place, class, reference, variable, inside, env, context, model,
+            tally, steps,
         ),
         None => Ok(()),
     }
@@ -267,7 +274,15 @@ fn set<E: Evaluator>(
     ensures same { model.new.metamodel ≡ model.old.metamodel }
 {
     let value = asked_at(alloc, spec, tool, place, env, model, tally, steps)?;
-    set_all(alloc, place, context, feature, value.members(), model, tally)
+    set_all(
+        alloc,
+        place,
+        context,
+        feature,
+        value.members(),
+        model,
+        tally,
+    )
 }
 
 // Takes values from a feature of the context: those of the expression, or all.
@@ -313,7 +328,15 @@ fn take_values<E: Evaluator>(
     ensures same { model.new.metamodel ≡ model.old.metamodel }
 {
     let value = evaluate(alloc, place, e, env, model, tally, steps)?;
-    take_all(alloc, place, context, feature, value.members(), model, tally)
+    take_all(
+        alloc,
+        place,
+        context,
+        feature,
+        value.members(),
+        model,
+        tally,
+    )
 }
 
 // Moves the context into a reference of the object that the expression gives.

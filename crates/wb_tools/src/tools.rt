@@ -94,16 +94,7 @@ fn run_all<E: Evaluator>(
     permission(alloc, spec, tool, &nearer, model, tally, steps)?;
     let operations = operations_of(spec, tool);
     perform(
-        alloc,
-        spec,
-        tool,
-        1,
-        operations,
-        &nearer,
-        context,
-        model,
-        tally,
-        steps,
+        alloc, spec, tool, 1, operations, &nearer, context, model, tally, steps,
     )
 }
 
@@ -114,7 +105,9 @@ fn operations_of(spec: &CheckedViewpoint, tool: u32) -> &[Operation]
     ensures few { count_all (operations_of spec.now tool) ≤ 256 }
 {
     let content = spec.viewpoint().content();
-    content.tools.as_slice()[tool as usize].operations.as_slice()
+    content.tools.as_slice()[tool as usize]
+        .operations
+        .as_slice()
 }
 
 // The precondition is true, or absent.

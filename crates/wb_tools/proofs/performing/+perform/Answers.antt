@@ -211,4 +211,3 @@ perform-returns-in_ok-act-in-len1-up-clause-done g t c =
 pub perform-returns-in-empty-clause-done : goal.perform-returns-in-empty-clause-done
 perform-returns-in-empty-clause-done g t c =
     perform_none g.E.Evaluator.outcome_by c.args.spec.now c.args.tool c.args.env.now c.args.context c.args.place c.args.operations.now (work c.args.model.now c.args.tally.now) (nothing c.args.operations.now (omega arith))
-
