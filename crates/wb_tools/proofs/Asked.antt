@@ -6,9 +6,8 @@ use Rattle.wb_aql_values.specs.declared.values.Value.TheVariants.{Null}
 use Rattle.wb_aql_eval.specs.declared.env.Env.{Env}
 use Rattle.wb_spec_check.specs.Checked.{Specification}
 use Rattle.wb_spec_check.specs.Units.{Expression, tool_expression}
-use Rattle.wb_tools.specs.Doings.{Doing, asked, done}
 use Rattle.wb_tools.specs.Operations.{asked_at, asked_of}
-use Rattle.wb_tools.specs.Runs.{Outcomes, Work, work, Ended, went, evaluated, run, Went}
+use Rattle.wb_tools.specs.Runs.{Outcomes, Work, Ended, went, evaluated, run, Went}
 use Rattle.wb_tools.specs.declared.refusals.ToolRefusal.{ToolRefusal}
 use Rattle.wb_tools.specs.declared.tally.Tally.{Tally}
 use Rattle.wb_tools.proofs.RunLemmas.{run_asked, run_done}

@@ -31,7 +31,7 @@ use Rattle.wb_spec_check.specs.Places.{◌▸◌, ◌!◌, diagram}
 use Rattle.wb_spec_check.specs.Scopes.{scope_inside, tool_scope}
 use Rattle.wb_spec_check.specs.Tools.{action_at, operation_at, operations_from, tool_at}
 use Rattle.wb_spec_check.specs.Units.{Expression}
-use Rattle.wb_spec_check.specs.Validated.{Validated, Finding, good, ◌<*>◌, each_from}
+use Rattle.wb_spec_check.specs.Validated.{Validated, Finding, each_from}
 use Rattle.wb_spec_check.specs.declared.checked_tools.CheckedOperation.{CheckedOperation}
 use Rattle.wb_spec_check.specs.declared.checked_tools.CheckedTool.{CheckedTool}
 use Rattle.wb_spec_check.specs.declared.parts.Parts.{Parts}

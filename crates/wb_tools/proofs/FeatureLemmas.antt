@@ -1,5 +1,5 @@
 -- Edits of features, as they are checked.
-use Rattle.std.proofs.Common.{◌≡◌, ℕ, List, Option, Some, None, Result, Ok, Err, sym, ap, subst, ◌∙◌}
+use Rattle.std.proofs.Common.{◌≡◌, ℕ, List, Option, None, Result, Ok, Err, sym, ap, subst}
 use Rattle.std.specs.Result.{IsErrAnd}
 use Rattle.wb_store.specs.Contents.{Contents}
 use Rattle.wb_store.specs.declared.scalars.Scalar.{Scalar}
@@ -7,7 +7,7 @@ use Rattle.wb_model.specs.declared.edits.edit.Edit.{Edit}
 use Rattle.wb_model.specs.declared.refusals.ModelRefusal.TheVariants.{KindMismatch}
 use Rattle.wb_tools.specs.Doings.{Doing, given, after}
 use Rattle.wb_tools.specs.FeatureEdits.{at_place, change_of, edit_or_mismatch, feature_in, with_feature, with_value}
-use Rattle.wb_tools.specs.Runs.{Outcomes, Work, work, Ended, stopped, run, named, IsStop, Went}
+use Rattle.wb_tools.specs.Runs.{Outcomes, Work, Ended, stopped, run, Went}
 use Rattle.wb_tools.specs.declared.feature_sorts.Way.{Way}
 use Rattle.wb_tools.specs.declared.refusals.ToolRefusal.{ToolRefusal}
 use Rattle.wb_tools.specs.declared.refusals.ToolRefusal.TheVariants as r

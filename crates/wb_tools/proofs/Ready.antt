@@ -1,5 +1,5 @@
 -- What is ready where operations are performed, and inside them.
-use Rattle.std.proofs.Common.{◌≡◌, ◌≤◌, ℕ, zero, suc, ◌+◌, ◌<◌, true, List, [], ◌∷◌, ◌++◌, drop, length, Option, Some, refl, sym, ap, subst, ◌∙◌, arith}
+use Rattle.std.proofs.Common.{◌≡◌, ℕ, zero, suc, ◌+◌, ◌<◌, true, List, [], ◌∷◌, ◌++◌, drop, length, Option, Some, refl, sym, subst}
 use Rattle.std.proofs.lemmas.Bool.{and_from, and_parts}
 use Rattle.std.specs.List.{list_all}
 use Rattle.std.specs.Prelude.{IfSome}
@@ -13,7 +13,7 @@ use Rattle.wb_aql_values.specs.declared.values.Value.TheVariants.{Null, One, Seq
 use Rattle.wb_aql_eval.specs.Outcomes.{Binds}
 use Rattle.wb_aql_eval.specs.declared.env.Env.{Env}
 use Rattle.wb_viewpoint.proofs.Trees.{tree_out}
-use Rattle.wb_viewpoint.specs.OperationTrees.{Tree, Trees, operation, no_trees, trees, count_all}
+use Rattle.wb_viewpoint.specs.OperationTrees.{Tree, Trees, operation, trees, count_all}
 use Rattle.wb_viewpoint.specs.View.{tree_of, trees_of}
 use Rattle.wb_viewpoint.specs.declared.operations.Operation.{Operation, out-Operation}
 use Rattle.wb_spec_check.specs.Checked.{Specification}

@@ -1,5 +1,5 @@
 -- What stands at a place of a tool.
-use Rattle.std.proofs.Common.{◌≡◌, ℕ, suc, List, Option, Some, None, refl, ap, ◌∙◌, slice_get}
+use Rattle.std.proofs.Common.{◌≡◌, ℕ, suc, Option, Some, None, ap, ◌∙◌, slice_get}
 use Rattle.wb_base.specs.Options.{◌>>=◌}
 use Rattle.wb_spec_check.specs.Checked.{Specification}
 use Rattle.wb_spec_check.specs.Units.{class_of_operation, expression_at_place, operation_at_place, tool_expression}

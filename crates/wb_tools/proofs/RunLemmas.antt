@@ -7,11 +7,10 @@ use Rattle.wb_store.specs.Contents.{Contents}
 use Rattle.wb_model.specs.Edits as model
 use Rattle.wb_model.specs.EditLaws.{IsEdited, AreEdited}
 use Rattle.wb_model.specs.EditLaws.AreEdited.{by_none, by_more}
-use Rattle.wb_model.specs.GivenEdits.{edit_of}
 use Rattle.wb_model.specs.declared.edits.edit.Edit.{Edit}
 use Rattle.wb_model.specs.declared.refusals.ModelRefusal.{ModelRefusal}
 use Rattle.wb_model.specs.declared.refusals.ModelRefusal.TheVariants as e
-use Rattle.wb_model.proofs.EditLaws.{same_metamodel, numbers-fresh}
+use Rattle.wb_model.proofs.EditLaws.{numbers-fresh}
 use Rattle.wb_model.proofs.GivenEdits.{given-edited}
 use Rattle.wb_aql_values.specs.declared.faults.Fault.{Fault}
 use Rattle.wb_aql_values.specs.declared.values.Value.{Value}

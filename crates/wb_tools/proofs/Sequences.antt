@@ -1,5 +1,5 @@
 -- Operations one after another, and the steps of one.
-use Rattle.std.proofs.Common.{◌≡◌, ◌≤◌, ◌+◌, ◌<◌, ℕ, zero, suc, ◌-◌, List, [], ◌∷◌, length, get_or, take, drop, Option, Some, None, Result, Ok, Err, refl, sym, ap, subst, ◌∙◌, arith}
+use Rattle.std.proofs.Common.{◌≡◌, ◌≤◌, ◌+◌, ℕ, suc, ◌-◌, List, [], ◌∷◌, length, get_or, take, drop, Some, Result, refl, sym, ap, subst, ◌∙◌, arith}
 use Rattle.std.proofs.lemmas.List.{take_all}
 use Rattle.std.specs.Result.{IsErrAnd}
 use Rattle.wb_store.specs.Contents.{Contents}
@@ -9,21 +9,19 @@ use Rattle.wb_model.specs.declared.edits.edit.Edit.{Edit}
 use Rattle.wb_model.specs.declared.refusals.ModelRefusal.{ModelRefusal}
 use Rattle.wb_aql_eval.specs.declared.env.Env.{Env}
 use Rattle.wb_viewpoint.proofs.Trees.{tree_out, count_out}
-use Rattle.wb_viewpoint.specs.OperationTrees.{Tree, Trees, trees, count_all}
-use Rattle.wb_viewpoint.specs.View.{tree_of, trees_of}
-use Rattle.wb_viewpoint.specs.declared.operations.Action.{Action}
+use Rattle.wb_viewpoint.specs.OperationTrees.{Tree, trees, count_all}
+use Rattle.wb_viewpoint.specs.View.{trees_of}
 use Rattle.wb_viewpoint.specs.declared.operations.Operation.{Operation, out-Operation}
 use Rattle.wb_spec_check.specs.Checked.{Specification}
-use Rattle.wb_spec_check.specs.Units.{class_of_operation}
 use Rattle.wb_tools.specs.Bindings.{context_with, inside_with}
-use Rattle.wb_tools.specs.Doings.{Doing, done, after, edited, look, ◌>>=◌}
+use Rattle.wb_tools.specs.Doings.{Doing, after, edited, look}
 use Rattle.wb_tools.specs.FeatureEdits.{creation, edit_by, moving}
-use Rattle.wb_tools.specs.Operations.{Inside, act, context_at, create_instance, creating, move, turn}
-use Rattle.wb_tools.specs.Runs.{Outcomes, Work, work, Ended, went, run, named, IsStop, Went}
+use Rattle.wb_tools.specs.Operations.{Inside, act, creating, turn}
+use Rattle.wb_tools.specs.Runs.{Outcomes, Work, Ended, went, run, named, IsStop, Went}
 use Rattle.wb_tools.specs.Tools.{perform}
 use Rattle.wb_tools.specs.declared.refusals.ToolRefusal.{ToolRefusal}
 use Rattle.wb_tools.specs.declared.tally.Tally.{Tally}
-use Rattle.wb_tools.proofs.RunLemmas.{returned, run_look, stopped_first, went_next}
+use Rattle.wb_tools.proofs.RunLemmas.{run_look, stopped_first, went_next}
 
 -- ---- parts of a list
 

@@ -1,5 +1,5 @@
 -- A whole tool, which is accepted or refused.
-use Rattle.std.proofs.Common.{◌≡◌, ◌≤◌, ◌+◌, ℕ, Option, Some, None, Result, Ok, Err, refl, sym, ap, subst, ◌∙◌, arith}
+use Rattle.std.proofs.Common.{◌≡◌, ◌≤◌, ◌+◌, ℕ, Option, Some, None, Ok, Err, refl, sym, ap, subst, arith}
 use Rattle.wb_base.specs.Answering.{IsRefusal}
 use Rattle.wb_store.specs.Contents.{Contents}
 use Rattle.wb_model.specs.EditLaws.{AreEdited}
@@ -7,7 +7,7 @@ use Rattle.wb_model.specs.EditLaws.AreEdited.{by_none}
 use Rattle.wb_aql_eval.specs.declared.env.Env.{Env}
 use Rattle.wb_spec_check.specs.Checked.{Specification}
 use Rattle.wb_tools.specs.Answers.{Ran, Rose, Counted}
-use Rattle.wb_tools.specs.Runs.{Outcomes, Ended, went, stopped, total, IsStop, Went, named, run, work}
+use Rattle.wb_tools.specs.Runs.{Outcomes, Ended, went, total, IsStop, named, run, work}
 use Rattle.wb_tools.specs.Tools.{accepted, ended, evaluations, ran, tool_of}
 use Rattle.wb_tools.specs.declared.refusals.ToolRefusal.{ToolRefusal}
 use Rattle.wb_tools.specs.declared.tally.Tally.{Tally}

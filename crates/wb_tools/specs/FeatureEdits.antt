@@ -1,5 +1,5 @@
 -- The edits of features and references that an operation names: which feature is meant depends on the class of the object at hand.
-use Rattle.std.specs.Prelude.{ℕ, List, [], ◌∷◌, Option, Some, None, Result, Ok, Err, not, ◌&&◌, if◌then◌else◌}
+use Rattle.std.specs.Prelude.{ℕ, List, [], ◌∷◌, Option, Some, None, Result, Ok, Err, if◌then◌else◌}
 use Rattle.wb_base.specs.Results.{◌>>=◌}
 use Rattle.wb_metamodel.specs.Metamodel.{Metamodel, feature_named}
 use Rattle.wb_store.specs.Cells.{is_plain, objects_in}

@@ -1,5 +1,5 @@
 -- A whole tool: its precondition, and its operations one after another, over whole models.
-use Rattle.std.specs.Prelude.{◌≡◌, ◌≤◌, ℕ, suc, ◌+◌, List, slice_get, Option, Some, None, Result, Ok, Err, Bool, true, false}
+use Rattle.std.specs.Prelude.{ℕ, suc, ◌+◌, slice_get, Option, Some, None, Result, Ok, Err, Bool, true, false}
 use Rattle.std.specs.Option.{option_map_or}
 use Rattle.wb_base.specs.Results.{◌>>=◌}
 use Rattle.wb_store.specs.Contents.{Contents}

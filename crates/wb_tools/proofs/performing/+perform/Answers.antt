@@ -1,27 +1,24 @@
-use Rattle.std.proofs.Common.{rules, arith, ◌≡◌, ◌≤◌, ◌<◌, ◌+◌, ◌-◌, ℕ, suc, take, Bool, true, false, List, [], ◌∷◌, drop, get_or, Option, Some, None, Result, Ok, Err, refl, sym, ap, subst, ◌∙◌, if◌then◌else◌}
+use Rattle.std.proofs.Common.{rules, arith, ◌≡◌, ◌<◌, ◌+◌, ◌-◌, ℕ, take, Bool, true, false, List, ◌∷◌, drop, Option, Ok, Err, sym, ap, subst, ◌∙◌, if◌then◌else◌}
 use Rattle.std.proofs.lemmas.List.{drop_more, drop_all}
 use Rattle.std.specs.List.{list_all}
-use Rattle.std.specs.Prelude.{IfSome, length}
+use Rattle.std.specs.Prelude.{length}
 use Rattle.wb_metamodel.specs.Metamodel.{Metamodel}
 use Rattle.wb_store.specs.declared.scalars.Scalar.{Scalar}
-use Rattle.wb_store.specs.declared.scalars.Scalar.TheVariants.{Object}
 use Rattle.wb_aql_values.specs.Bounds.{is_bounded}
 use Rattle.wb_aql_values.specs.Values.{members}
-use Rattle.wb_aql_values.specs.declared.values.Value.{Value}
 use Rattle.wb_aql_eval.specs.declared.env.Env.{Env}
 use Rattle.wb_viewpoint.specs.OperationTrees.{count_all}
 use Rattle.wb_viewpoint.specs.View.{trees_of}
-use Rattle.wb_viewpoint.specs.declared.operations.Action.{Action}
 use Rattle.wb_viewpoint.specs.declared.operations.Operation.{Operation, out-Operation}
 use Rattle.wb_spec_check.specs.Scopes.{scope_inside}
-use Rattle.wb_tools.specs.Bindings.{in_context, inside_with, context_with}
-use Rattle.wb_tools.specs.Doings.{Doing, done, each}
+use Rattle.wb_tools.specs.Bindings.{in_context, inside_with}
+use Rattle.wb_tools.specs.Doings.{done, each}
 use Rattle.wb_tools.specs.Operations.{act, asked_at, change_context, condition_at, context_at, create_instance, creating, for_each, if_true, turn}
-use Rattle.wb_tools.specs.Readiness.{AreReady, IsReady, IsReadyAround, same_scope, one_more}
+use Rattle.wb_tools.specs.Readiness.{AreReady, IsReadyAround, one_more}
 use Rattle.wb_tools.specs.Runs.{IsStop, named, run, work, Went, went}
 use Rattle.wb_tools.specs.Tools.{perform}
-use Rattle.wb_tools.proofs.Ready.{member_bounded, rest_bounded, ready_branch, ready_first, ready_here, ready_in_context, ready_inside, ready_metamodel, ready_rest, class_known}
-use Rattle.wb_tools.proofs.RunLemmas.{no_memory, no_memory_next, returned, run_done, stopped_first, turn_next, turn_stopped, turns_over, went_next}
+use Rattle.wb_tools.proofs.Ready.{rest_bounded, ready_first, ready_in_context, ready_inside, ready_metamodel, ready_rest}
+use Rattle.wb_tools.proofs.RunLemmas.{no_memory, no_memory_next, run_done, stopped_first, turn_next, turn_stopped, turns_over, went_next}
 use Rattle.wb_tools.proofs.Sequences.{turn_as, count_first, create_next, create_stopped, perform_more, nothing, perform_none, perform_stopped, places, split}
 use Rattle.wb_tools.proofs.performing.+perform.Goals as goal
 

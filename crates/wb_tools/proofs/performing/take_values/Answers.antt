@@ -1,4 +1,4 @@
-use Rattle.std.proofs.Common.{List, Err, subst, sym, ◌∙◌}
+use Rattle.std.proofs.Common.{List, subst, sym, ◌∙◌}
 use Rattle.wb_store.specs.declared.scalars.Scalar.{Scalar}
 use Rattle.wb_aql_values.specs.Values.{members}
 use Rattle.wb_aql_values.specs.declared.values.Value.{Value}

@@ -1,4 +1,4 @@
-use Rattle.std.proofs.Common.{rules, arith, ◌≡◌, ◌<◌, ◌+◌, subst, sym, ap, ◌∙◌}
+use Rattle.std.proofs.Common.{arith, ◌≡◌, subst, sym, ap}
 use Rattle.wb_aql_eval.specs.declared.env.Env.{Env}
 use Rattle.wb_viewpoint.specs.OperationTrees.{Trees, count_all}
 use Rattle.wb_viewpoint.specs.View.{trees_of}

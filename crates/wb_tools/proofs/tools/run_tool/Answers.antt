@@ -1,5 +1,4 @@
-use Rattle.std.proofs.Common.{◌≡◌, ap, subst, sym, ◌∙◌}
-use Rattle.wb_metamodel.specs.Metamodel.{Metamodel}
+use Rattle.std.proofs.Common.{◌≡◌, subst}
 use Rattle.wb_store.specs.Contents.{Contents}
 use Rattle.wb_tools.specs.Runs.{IsStop, named, run, went, work}
 use Rattle.wb_tools.specs.Tools.{tool_of}

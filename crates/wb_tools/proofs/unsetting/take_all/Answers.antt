@@ -1,6 +1,5 @@
 use Rattle.std.proofs.Common.{ap, subst, ◌∙◌}
 use Rattle.wb_metamodel.specs.Metamodel.{Metamodel}
-use Rattle.wb_store.specs.Contents.{slot}
 use Rattle.wb_tools.specs.FeatureEdits.{take_by, take_all, sort_of}
 use Rattle.wb_tools.specs.Runs.{run, work, Went}
 use Rattle.wb_tools.specs.declared.feature_sorts.FeatureSort.{FeatureSort}

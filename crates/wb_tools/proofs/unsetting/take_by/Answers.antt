@@ -1,11 +1,10 @@
-use Rattle.std.proofs.Common.{sym, ap, subst, ◌∙◌}
-use Rattle.wb_store.specs.Contents.{slot}
+use Rattle.std.proofs.Common.{sym, subst}
 use Rattle.wb_model.specs.declared.refusals.ModelRefusal.TheVariants.{KindMismatch}
 use Rattle.wb_tools.specs.FeatureEdits.{take_by}
 use Rattle.wb_tools.specs.Runs.{run, work, Went}
 use Rattle.wb_tools.specs.declared.feature_sorts.FeatureSort.{FeatureSort}
 use Rattle.wb_tools.specs.declared.refusals.ToolRefusal.TheVariants.{Model}
-use Rattle.wb_tools.proofs.RunLemmas.{refused_as, run_refuse}
+use Rattle.wb_tools.proofs.RunLemmas.{refused_as}
 use Rattle.wb_tools.proofs.unsetting.take_by.Goals as goal
 
 pub returns-in-Many-clause-done : goal.returns-in-Many-clause-done

@@ -5,7 +5,7 @@ use Rattle.wb_tools.specs.FeatureEdits.{unset_by}
 use Rattle.wb_tools.specs.Runs.{run, work, Went}
 use Rattle.wb_tools.specs.declared.feature_sorts.FeatureSort.{FeatureSort}
 use Rattle.wb_tools.specs.declared.refusals.ToolRefusal.TheVariants.{Model}
-use Rattle.wb_tools.proofs.RunLemmas.{refused_as, run_refuse}
+use Rattle.wb_tools.proofs.RunLemmas.{run_refuse}
 use Rattle.wb_tools.proofs.unsetting.unset_by.Goals as goal
 
 pub returns-in-Single-clause-done : goal.returns-in-Single-clause-done
