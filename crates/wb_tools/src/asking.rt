@@ -1,4 +1,4 @@
-ghost use Rattle.std.specs.Prelude.{◌≡◌, ◌+◌, nat_le, true, false, Ok, Err, IfOk};
+ghost use Rattle.std.specs.Prelude.{◌≡◌, ◌+◌, IfOk};
 ghost use Rattle.wb_aql_check.specs.Checked.{IsChecked};
 ghost use Rattle.wb_aql_eval.specs.Outcomes.{Binds};
 ghost use Rattle.wb_aql_values.specs.Bounds.{IsBounded};
