@@ -1,5 +1,5 @@
 -- Sockets: what they told.
-use Rattle.std.specs.Prelude.{ℕ, ◌+◌, ◌<◌, ◌≤◌, ◌⊎◌, Bool, true, false, List, ◌++◌, take}
+use Rattle.std.specs.Prelude.{ℕ, ◌+◌, ◌<◌, ◌≤◌, ◌⊎◌, Bool, true, false, List, [], ◌++◌, take}
 use Rattle.wb_outer.specs.Files.{rounds}
 use Rattle.wb_outer.specs.declared.files.Part.{Part}
 use Rattle.wb_outer.specs.declared.files.Part.TheVariants.{Bytes as PartBytes, End, Interrupted as PartInterrupted, Failed as PartFailed}
@@ -8,6 +8,10 @@ use Rattle.wb_outer.specs.declared.output.Put.TheVariants.{Took, Interrupted as 
 use Rattle.wb_doors.specs.declared.sockets.SocketsTold.{SocketsTold}
 use Rattle.wb_doors.specs.declared.sockets.Came.{Came}
 use Rattle.wb_doors.specs.declared.sockets.Came.TheVariants.{Peer, Interrupted as CameInterrupted, Failed as CameFailed}
+
+-- no call was made yet
+abbrev pub no_call_told : SocketsTold
+no_call_told = record { peers = 0; given = []; took = []; ends = 0; calls = 0; failures = 0 }
 
 -- a call was made that gave and took nothing
 abbrev pub after_call : SocketsTold → SocketsTold

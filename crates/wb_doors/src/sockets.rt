@@ -1,7 +1,7 @@
-ghost use Rattle.std.specs.Prelude.{◌≡◌, ◌<◌, [], length};
+ghost use Rattle.std.specs.Prelude.{◌≡◌, ◌<◌, length};
 ghost use Rattle.wb_outer.specs.Files.{FitsPart};
 ghost use Rattle.wb_outer.specs.Output.{IsPart};
-ghost use Rattle.wb_doors.specs.Sockets.{after_listen, after_accept, after_read, after_put};
+ghost use Rattle.wb_doors.specs.Sockets.{no_call_told, after_listen, after_accept, after_read, after_put};
 
 use wb_outer::{Log, Part, Put, Steps};
 
@@ -47,7 +47,7 @@ pub struct SocketsTold {
 impl SocketsTold {
     /// No call was made yet.
     pub fn new() -> SocketsTold
-        ensures { result ≡ record { peers = 0; given = []; took = []; ends = 0; calls = 0; failures = 0 } }
+        ensures { result ≡ no_call_told }
     {
         SocketsTold {
             peers: Steps::new(),

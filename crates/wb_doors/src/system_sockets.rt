@@ -1,6 +1,7 @@
-ghost use Rattle.std.specs.Prelude.{◌<◌, length};
+ghost use Rattle.std.specs.Prelude.{◌≡◌, ◌<◌, length};
 ghost use Rattle.wb_outer.specs.Files.{FitsPart};
 ghost use Rattle.wb_outer.specs.Output.{IsPart};
+ghost use Rattle.wb_doors.specs.Sockets.{no_call_told};
 
 use crate::sockets::{Came, Sockets, SocketsTold};
 use std::io::ErrorKind;
@@ -30,7 +31,10 @@ impl Drop for SystemSockets {
 }
 
 impl SystemSockets {
-    pub fn new(rt: &HostRuntime) -> SystemSockets {
+    /// Nothing listens yet.
+    pub fn new(rt: &HostRuntime) -> SystemSockets
+        ensures { ⟦<SystemSockets as Sockets>⟧.told result ≡ no_call_told }
+    {
         SystemSockets {
             rt: *rt,
             listener: None,

@@ -4,6 +4,7 @@ ghost use Rattle.wb_outer.specs.Faults.{Rose, counted};
 ghost use Rattle.wb_outer.specs.Sink.{has_failed};
 ghost use Rattle.wb_outer.specs.declared.door.Next.{Next};
 ghost use Rattle.wb_doors.specs.MemoryDoors.{next_failed, read_failed};
+ghost use Rattle.wb_doors.specs.Sockets.{no_call_told};
 ghost use Rattle.wb_doors.specs.TcpDoors.{IsSameDoor, Listens, Accepts, ReadsThrough, WritesThrough, tcp_told};
 
 use crate::sockets::{Came, Sockets};
@@ -44,7 +45,11 @@ impl<S> Model for TcpDoor<S> {
 
 impl TcpDoor<SystemSockets> {
     /// A door on 127.0.0.1 port 7878.
-    pub fn new(rt: &HostRuntime) -> TcpDoor<SystemSockets> {
+    pub fn new(rt: &HostRuntime) -> TcpDoor<SystemSockets>
+        ensures told { tcp_told result ≡ record { last = None; taken = []; to_come = None; faults = 0 } }
+        ensures listening { result.is_listening ≡ false }
+        ensures sockets { ⟦<SystemSockets as Sockets>⟧.told result.sockets ≡ no_call_told }
+    {
         TcpDoor::over(SystemSockets::new(rt))
     }
 }

@@ -9,6 +9,10 @@ use Rattle.wb_outer.specs.declared.files.FilesTold.{FilesTold}
 use Rattle.wb_outer.specs.declared.files.Part.{Part}
 use Rattle.wb_outer.specs.declared.files.Part.TheVariants.{Bytes as PartBytes, End, Interrupted, Failed as PartFailed}
 
+-- no file was opened yet
+abbrev pub no_file_told : FilesTold
+no_file_told = record { opened = []; given = []; reads = 0; has_ended = false; has_failed = false }
+
 -- the file of a path was to be opened, and was or not
 abbrev pub after_open : List ℕ → Bool → FilesTold → FilesTold
 after_open path is_open told = record { opened = told.opened ++ path ∷ []; given = []; reads = 0; has_ended = false; has_failed = not is_open }

@@ -1,5 +1,5 @@
 -- The output of the system: what it told, and what a whole piece comes to.
-use Rattle.std.specs.Prelude.{◌≡◌, ℕ, ◌+◌, ◌<◌, ◌≤◌, ◌⊎◌, List, ◌++◌, length, take, Option}
+use Rattle.std.specs.Prelude.{◌≡◌, ℕ, ◌+◌, ◌<◌, ◌≤◌, ◌⊎◌, List, [], ◌++◌, length, take, Option}
 use Rattle.std.specs.Io.KnownBytes.{Appends, Keeps}
 use Rattle.wb_outer.specs.Sink.{SinkTold}
 use Rattle.wb_outer.specs.Files.{rounds}
@@ -8,6 +8,10 @@ use Rattle.wb_outer.specs.declared.output.Put.{Put}
 use Rattle.wb_outer.specs.declared.output.Put.TheVariants.{Took, Interrupted, Failed as PutFailed}
 use Rattle.wb_outer.specs.declared.sink.Wrote.{Wrote}
 use Rattle.wb_outer.specs.declared.sink.Wrote.TheVariants.{Done, Failed}
+
+-- nothing was written yet
+abbrev pub nothing_told : OutputTold
+nothing_told = record { took = []; writes = 0; failures = 0 }
 
 -- a write of these bytes answered so
 abbrev pub after_put : Put → List ℕ → OutputTold → OutputTold

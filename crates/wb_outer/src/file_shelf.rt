@@ -1,7 +1,7 @@
-ghost use Rattle.std.specs.Prelude.{◌≡◌, [], ◌++◌, ◌∷◌, IfOk, OnErr, true, false};
+ghost use Rattle.std.specs.Prelude.{◌≡◌, [], ◌++◌, ◌∷◌, None, IfOk, OnErr, true, false};
 ghost use Rattle.wb_outer.specs.Faults.{counted};
 ghost use Rattle.wb_outer.specs.Shelf.{Gives, has_failed};
-ghost use Rattle.wb_outer.specs.Files.{IsDue, IsReadOf, IsJustOpened, files_told};
+ghost use Rattle.wb_outer.specs.Files.{no_file_told, IsDue, IsReadOf, IsJustOpened, files_told};
 
 use crate::bytes::Bytes;
 use crate::faults::raise;
@@ -30,7 +30,10 @@ impl<F> Model for FileShelf<F> {
 
 impl FileShelf<SystemFiles> {
     /// The files of the system.
-    pub fn new(rt: &HostRuntime) -> FileShelf<SystemFiles> {
+    pub fn new(rt: &HostRuntime) -> FileShelf<SystemFiles>
+        ensures told { files_told result ≡ record { given = []; files = None; faults = 0 } }
+        ensures files { ⟦<SystemFiles as Files>⟧.told result.files ≡ no_file_told }
+    {
         FileShelf::over(SystemFiles::new(rt))
     }
 }

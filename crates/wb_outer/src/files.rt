@@ -1,5 +1,5 @@
-ghost use Rattle.std.specs.Prelude.{◌≡◌, ◌++◌, ◌+◌, ◌∷◌, [], false, ◌<◌, length};
-ghost use Rattle.wb_outer.specs.Files.{after_open, after_part, FitsPart, PartOf};
+ghost use Rattle.std.specs.Prelude.{◌≡◌, ◌<◌, length};
+ghost use Rattle.wb_outer.specs.Files.{no_file_told, after_open, after_part, FitsPart, PartOf};
 
 use crate::log::Log;
 use crate::steps::Steps;
@@ -37,7 +37,7 @@ pub struct FilesTold {
 impl FilesTold {
     /// No file was opened yet.
     pub fn new() -> FilesTold
-        ensures { result ≡ record { opened = []; given = []; reads = 0; has_ended = false; has_failed = false } }
+        ensures { result ≡ no_file_told }
     {
         FilesTold {
             opened: Log::new(),
@@ -105,7 +105,10 @@ pub struct SystemFiles {
 }
 
 impl SystemFiles {
-    pub fn new(rt: &HostRuntime) -> SystemFiles {
+    /// No file is open yet.
+    pub fn new(rt: &HostRuntime) -> SystemFiles
+        ensures { ⟦<SystemFiles as Files>⟧.told result ≡ no_file_told }
+    {
         SystemFiles {
             rt: *rt,
             file: None,

@@ -1,5 +1,5 @@
-ghost use Rattle.std.specs.Prelude.{◌≡◌, ◌<◌, [], length};
-ghost use Rattle.wb_outer.specs.Output.{after_put, IsPart, PutOf};
+ghost use Rattle.std.specs.Prelude.{◌≡◌, ◌<◌, length};
+ghost use Rattle.wb_outer.specs.Output.{nothing_told, after_put, IsPart, PutOf};
 
 use crate::log::Log;
 use crate::steps::Steps;
@@ -36,7 +36,7 @@ pub struct OutputTold {
 impl OutputTold {
     /// Nothing was written yet.
     pub fn new() -> OutputTold
-        ensures { result ≡ record { took = []; writes = 0; failures = 0 } }
+        ensures { result ≡ nothing_told }
     {
         OutputTold {
             took: Log::new(),
@@ -81,7 +81,10 @@ pub struct SystemOutput {
 }
 
 impl SystemOutput {
-    pub fn new(rt: &HostRuntime) -> SystemOutput {
+    /// Nothing was written yet.
+    pub fn new(rt: &HostRuntime) -> SystemOutput
+        ensures { ⟦<SystemOutput as Output>⟧.told result ≡ nothing_told }
+    {
         SystemOutput {
             rt: *rt,
             told: OutputTold::new(),

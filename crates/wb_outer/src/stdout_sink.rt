@@ -1,7 +1,7 @@
 ghost use Rattle.std.specs.Prelude.{◌≡◌, []};
 ghost use Rattle.wb_outer.specs.Faults.{counted};
 ghost use Rattle.wb_outer.specs.Sink.{Receives, has_failed};
-ghost use Rattle.wb_outer.specs.Output.{TakesWhole, HasCause, output_told};
+ghost use Rattle.wb_outer.specs.Output.{nothing_told, TakesWhole, HasCause, output_told};
 
 use crate::faults::raise;
 use crate::log::Log;
@@ -27,7 +27,10 @@ impl<O> Model for StdoutSink<O> {
 
 impl StdoutSink<SystemOutput> {
     /// The standard output.
-    pub fn new(rt: &HostRuntime) -> StdoutSink<SystemOutput> {
+    pub fn new(rt: &HostRuntime) -> StdoutSink<SystemOutput>
+        ensures told { output_told ⟦<SystemOutput as Output>⟧.told result ≡ record { handed = []; took = []; faults = 0 } }
+        ensures output { ⟦<SystemOutput as Output>⟧.told result.output ≡ nothing_told }
+    {
         StdoutSink::over(SystemOutput::new(rt))
     }
 }

@@ -110,7 +110,8 @@ fn is_bool(value: &Value) -> bool
     matches!(value, Value::One(Scalar::Bool(_)))
 }
 
-fn fault_name(fault: Fault) -> &'static str
+/// The name of a fault.
+pub fn fault_name(fault: Fault) -> &'static str
     ensures { result.now ≡ fault_name fault }
 {
     match fault {

@@ -10,4 +10,5 @@ mod opening;
 mod refresh;
 mod table;
 
+pub use faults::fault_name;
 pub use refresh::Refresh;
