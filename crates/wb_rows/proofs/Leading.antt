@@ -34,16 +34,17 @@ erased_ascend : (key : List ℕ) (rows : List Row) → Ascend rows → Ascend (e
 erased_ascend key rows up =
     subst (λ es. T (is_sorted key_cmp es)) (sym (entries_erased key rows)) (is_sorted-where_key key_cmp (λ x. not (pointwise nat_eq x key)) (map entry_of rows) up)
 
+inserted_before : (r other : Row) (rows : List Row) (o : Ordering) → key_cmp r.key other.key ≡ o → text_at (other ∷ rows) r.key ≡ None
+    → (text_at rows r.key ≡ None → map entry_of (inserted r rows) ≡ put_entry key_cmp r.key r.text (map entry_of rows))
+    → map entry_of (inserted r (other ∷ rows)) ≡ put_entry key_cmp r.key r.text (map entry_of (other ∷ rows))
+inserted_before r other rows c.Less is none rest = rw is refl
+inserted_before r other rows c.Equal is none rest = absurd (let found : cond (is_eq c.Equal) (Some other.text) (text_at rows r.key) ≡ None = ap (λ o. cond (is_eq o) (Some other.text) (text_at rows r.key)) (sym is) ∙ none in cc)
+inserted_before r other rows c.Greater is none rest =
+    rw is (ap (λ es. entry_of other ∷ es) (rest (ap (λ o. cond (is_eq o) (Some other.text) (text_at rows r.key)) (sym is) ∙ none)))
+
 entries_inserted : (r : Row) (rows : List Row) → text_at rows r.key ≡ None → map entry_of (inserted r rows) ≡ put_entry key_cmp r.key r.text (map entry_of rows)
 entries_inserted r [] none = refl
-entries_inserted r (other ∷ rows) none = at (key_cmp r.key other.key) refl
-  where
-    at : (o : Ordering) → key_cmp r.key other.key ≡ o → map entry_of (inserted r (other ∷ rows)) ≡ put_entry key_cmp r.key r.text (map entry_of (other ∷ rows))
-    at c.Less is = rw is refl
-    at c.Equal is = absurd (let found : cond (is_eq c.Equal) (Some other.text) (text_at rows r.key) ≡ None = ap (λ o. cond (is_eq o) (Some other.text) (text_at rows r.key)) (sym is) ∙ none in cc)
-    at c.Greater is =
-        let rest : text_at rows r.key ≡ None = ap (λ o. cond (is_eq o) (Some other.text) (text_at rows r.key)) (sym is) ∙ none in
-        rw is (ap (λ es. entry_of other ∷ es) (entries_inserted r rows rest))
+entries_inserted r (other ∷ rows) none = inserted_before r other rows (key_cmp r.key other.key) refl none (entries_inserted r rows)
 
 none_there : (r : Row) (rows : List Row) → text_at (erased r.key rows) r.key ≡ None
 none_there r rows = at_erased r.key rows r.key ∙ ap (λ b. cond (not b) (text_at rows r.key) None) (same_text r.key)

@@ -1,5 +1,5 @@
 -- What a search among ascending rows finds.
-use Rattle.std.proofs.Common.{◌≡◌, ◌+◌, ◌<◌, ◌≤◌, ℕ, zero, suc, Bool, true, false, List, [], ◌∷◌, length, get_or, cond, map, Option, Some, None, Result, Ok, Err, refl, sym, ap, subst, ◌∙◌, inl, inr, arith}
+use Rattle.std.proofs.Common.{◌≡◌, ◌+◌, ◌<◌, ◌≤◌, ℕ, zero, suc, Bool, true, false, List, [], ◌∷◌, length, get_or, cond, map, Option, Some, None, Result, Ok, Err, refl, sym, ap, subst, ◌∙◌, inl, inr, add-one, arith}
 use Rattle.std.proofs.lemmas.Bool.{cases_lt}
 use Rattle.std.specs.declared.cmp.Ordering.{Ordering}
 use Rattle.std.specs.declared.cmp.Ordering.TheVariants as c
@@ -11,10 +11,13 @@ use Rattle.wb_outer.specs.declared.keeper.Row.{Row}
 use Rattle.wb_rows.specs.Texts.{Ascend, entry_of, key_cmp, text_at}
 use Rattle.wb_rows.proofs.Orders.{above, below_at, first_below, key_total, one_key, rest_ascend, same_itself}
 
+not_below : (rows : List Row) (k : ℕ) (d : Row) → Ascend rows → suc k < length rows → is_lt (key_cmp (get_or rows (suc k) d).key (get_or rows k d).key) ≡ false
+not_below [] k d up l = absurd (omega arith)
+not_below (r ∷ rows) zero d up l = (above r.key (get_or rows 0 d).key (below_at r.key rows 0 d (first_below r rows up) (omega arith))).1
+not_below (r ∷ rows) (suc k) d up l = not_below rows k d (rest_ascend r rows up) (omega arith)
+
 sorted : (rows : List Row) → Ascend rows → IsSortedBy (λ (x : Row) (y : Row). is_lt (key_cmp x.key y.key)) rows
-sorted [] up k d low high = absurd (omega arith)
-sorted (r ∷ rows) up zero d low high = (above r.key (get_or rows 0 d).key (below_at r.key rows 0 d (first_below r rows up) (omega arith))).1
-sorted (r ∷ rows) up (suc k) d low high = sorted rows (rest_ascend r rows up) k d (omega arith) (omega arith)
+sorted rows up k d low high = rw add-one (not_below rows k d up (omega arith))
 
 searchable : (key : List ℕ) (rows : List Row) → Ascend rows → IsNonDecreasingBy (λ (r : Row). ordering_index (key_cmp r.key key)) rows
 searchable key rows up = searchable_from_sorted key_total (λ (r : Row). r.key) rows key (sorted rows up)
