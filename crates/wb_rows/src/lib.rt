@@ -2,6 +2,10 @@
 #![tactic(auto)]
 
 mod changing;
+mod marked;
+mod objects;
+mod positions;
 mod row_map;
+mod spelling;
 
 pub use changing::changes;
