@@ -1,5 +1,5 @@
 -- The changes between ascending rows lead from the old rows to the new ones.
-use Rattle.std.proofs.Common.{◌≡◌, ℕ, Bool, true, false, not, nat_eq, T, List, [], ◌∷◌, ◌++◌, cond, filter, map, Option, Some, None, is_some, is_none, refl, sym, ap, subst, ◌∙◌, rules}
+use Rattle.std.proofs.Common.{◌≡◌, ℕ, Bool, true, false, not, nat_eq, T, List, [], ◌∷◌, ◌++◌, cond, filter, map, Option, Some, None, is_some, is_none, refl, sym, ap, subst, ◌∙◌}
 use Rattle.std.specs.declared.cmp.Ordering.{Ordering}
 use Rattle.std.specs.declared.cmp.Ordering.TheVariants as c
 use Rattle.std.specs.Option.{option_or, option_map_or}
@@ -10,7 +10,7 @@ use Rattle.std.specs.FinMap.Entries.{below_all, find-put, find-where_key, is_sor
 use Rattle.wb_outer.specs.Keeper.{changed, erased, inserted, put}
 use Rattle.wb_outer.specs.declared.keeper.Row.{Row}
 use Rattle.wb_outer.specs.declared.keeper.RowChange.{RowChange}
-use Rattle.wb_outer.specs.declared.keeper.RowChange.TheVariants.{Put, Erase}
+use Rattle.wb_outer.specs.declared.keeper.RowChange.TheVariants.{Put}
 use Rattle.wb_rows.specs.Changes.{changes_between, erase, is_fresh, is_gone}
 use Rattle.wb_rows.specs.Texts.{Ascend, entry_of, key_cmp, row, row_of, text_at}
 use Rattle.wb_rows.proofs.Orders.{absent, first_below, key_total, left_of, one_key, pair_of, rest_ascend, right_of, rows_back, same_key_is, same_text, same_text_is}

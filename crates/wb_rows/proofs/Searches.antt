@@ -1,14 +1,13 @@
 -- What a search among ascending rows finds.
-use Rattle.std.proofs.Common.{◌≡◌, ◌+◌, ◌<◌, ◌≤◌, ℕ, zero, suc, Bool, true, false, List, [], ◌∷◌, length, get_or, cond, map, Option, Some, None, Result, Ok, Err, refl, sym, ap, subst, ◌∙◌, inl, inr, add-one, arith}
+use Rattle.std.proofs.Common.{◌≡◌, ◌<◌, ℕ, zero, suc, false, List, [], ◌∷◌, length, get_or, cond, Some, None, Ok, Err, refl, ap, subst, ◌∙◌, inl, inr, add-one, arith}
 use Rattle.std.proofs.lemmas.Bool.{cases_lt}
 use Rattle.std.specs.declared.cmp.Ordering.{Ordering}
 use Rattle.std.specs.declared.cmp.Ordering.TheVariants as c
 use Rattle.std.specs.Ordering.{ordering_index, ordering_reverse, is_eq, is_lt, eq_by_cmp}
 use Rattle.std.specs.List.Sorted.{IsBinarySearchResult, IsNonDecreasingBy, IsSortedBy}
 use Rattle.std.proofs.lemmas.List.Sorted.{searchable_from_sorted}
-use Rattle.std.specs.FinMap.{find}
 use Rattle.wb_outer.specs.declared.keeper.Row.{Row}
-use Rattle.wb_rows.specs.Texts.{Ascend, entry_of, key_cmp, text_at}
+use Rattle.wb_rows.specs.Texts.{Ascend, key_cmp, text_at}
 use Rattle.wb_rows.proofs.Orders.{above, below_at, first_below, key_total, one_key, rest_ascend, same_itself}
 
 not_below : (rows : List Row) (k : ℕ) (d : Row) → Ascend rows → suc k < length rows → is_lt (key_cmp (get_or rows (suc k) d).key (get_or rows k d).key) ≡ false

@@ -1,5 +1,7 @@
 -- A tree of rows, as a finite map.
-use Rattle.std.proofs.Common.{◌≡◌, ℕ, T, List, [], ◌∷◌, length, refl, sym, ap, subst, ◌∙◌}
+use Rattle.std.proofs.Common.{◌≡◌, ℕ, T, List, [], ◌∷◌, length, Result, Ok, Err, IfOk, refl, sym, ap, subst, ◌∙◌}
+use Rattle.std.specs.declared.alloc.AllocError.{AllocError}
+use Rattle.wb_outer.specs.declared.keeper.Row.{Row}
 use Rattle.std.specs.declared.cmp.Ordering.{Ordering}
 use Rattle.std.specs.declared.cmp.Ordering.TheVariants as c
 use Rattle.std.specs.Ordering.{match_ordering}
@@ -45,3 +47,7 @@ entries_of es m s view = sym (entries-from_sorted key_cmp es s) ∙ ap (λ n. en
 
 pub rows_in_ascend : (m : Texts) → Ascend (rows_in m)
 rows_in_ascend m = subst (λ es. T (is_sorted key_cmp es)) (sym (entries_back (entries m))) (entries_sorted m)
+
+pub are_ascending : (r : Result (List Row) AllocError) (m : Texts) → IfOk r (λ rows. rows ≡ rows_in m) → IfOk r Ascend
+are_ascending (Ok rows) m is = subst Ascend (sym is) (rows_in_ascend m)
+are_ascending (Err e) m is = is

@@ -1,5 +1,5 @@
 -- What changes between the rows of two states.
-use Rattle.std.specs.Prelude.{ℕ, Bool, true, not, nat_eq, is_none, List, ◌++◌, map, filter}
+use Rattle.std.specs.Prelude.{Bool, true, not, nat_eq, is_none, List, ◌++◌, map, filter}
 use Rattle.std.specs.Option.{option_map_or}
 use Rattle.std.specs.Cmp.Lexicographic.{pointwise}
 use Rattle.wb_outer.specs.declared.keeper.Row.{Row}

@@ -12,11 +12,7 @@ use wb_base::{Duplicate, List};
 use wb_outer::{Bytes, Row, RowChange};
 
 /// The changes that make the new rows of the old ones: exactly the rows that differ.
-pub fn changes(
-    alloc: Global,
-    old: &[Row],
-    new: &[Row],
-) -> Result<List<RowChange>, AllocError>
+pub fn changes(alloc: Global, old: &[Row], new: &[Row]) -> Result<List<RowChange>, AllocError>
     requires old { Ascend old.now }
     requires new { Ascend new.now }
     ensures exact { IfOk result (λ it. it ≡ changes_between old.now new.now) }

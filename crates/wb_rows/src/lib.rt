@@ -2,10 +2,18 @@
 #![tactic(auto)]
 
 mod changing;
+mod heads;
+mod laws;
 mod marked;
 mod objects;
 mod positions;
 mod row_map;
 mod spelling;
+mod state;
+mod switched;
+mod writing;
 
 pub use changing::changes;
+pub use laws::rows_ascend;
+pub use state::{KeptState, StateParts};
+pub use writing::write_rows;

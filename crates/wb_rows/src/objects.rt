@@ -11,11 +11,7 @@ use wb_model::Model;
 use wb_model_json::write_object;
 
 /// A row for each live object.
-pub(crate) fn put_objects(
-    alloc: Global,
-    rows: &mut RowMap,
-    model: &Model,
-) -> Result<(), AllocError>
+pub(crate) fn put_objects(alloc: Global, rows: &mut RowMap, model: &Model) -> Result<(), AllocError>
     ensures { OnOk result (rows.new ≡ with_rows (object_rows model.now) rows.old) }
 {
     let objects = model.objects(alloc)?;

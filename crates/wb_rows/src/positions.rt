@@ -23,8 +23,8 @@ pub(crate) fn put_positions(
         let Some(key) = layout.key(i) else {
             return Ok(());
         };
-        if let Some((x, y)) = layout.at(key) {
-            put_position(alloc, rows, key, x, y)?;
+        if let Some(at) = layout.at(key) {
+            put_position(alloc, rows, key, at)?;
         }
     }
     // No memory holds so many.
@@ -35,14 +35,13 @@ fn put_position(
     alloc: Global,
     rows: &mut RowMap,
     key: &Key,
-    x: i64,
-    y: i64,
+    at: (i64, i64),
 ) -> Result<(), AllocError>
     requires { IsPath key.now }
-    ensures { OnOk result (rows.new ≡ maps.insert rows.old (position_row (key.now, (x, y))).key (position_row (key.now, (x, y))).text) }
+    ensures { OnOk result (rows.new ≡ maps.insert rows.old (position_row (key.now, at)).key (position_row (key.now, at)).text) }
 {
     rows.put(
         element_key(alloc, "p/", key)?,
-        position_text(alloc, x, y)?.into_bytes(),
+        position_text(alloc, at.0, at.1)?.into_bytes(),
     )
 }

@@ -1,5 +1,4 @@
-use Rattle.std.proofs.Common.{◌≡◌, ◌<◌, ℕ, List, length, get_or, ap, subst, ◌∙◌}
-use Rattle.std.specs.FinMap.{keys}
+use Rattle.std.proofs.Common.{◌<◌, ℕ, List, length, get_or, ap, subst, ◌∙◌}
 use Rattle.wb_rows.specs.Rows.{object_row}
 use Rattle.wb_rows.proofs.Found.{live}
 use Rattle.wb_rows.proofs.Steps.{rows_more}
