@@ -8,6 +8,7 @@ use crate::row_map::RowMap;
 use crate::spelling::{number_text, roots_text};
 use crate::state::StateParts;
 use std::alloc::{AllocError, Global};
+use wb_metamodel::Metamodel;
 use wb_spec_check::CheckedViewpoint;
 
 /// The rows that every state has.
@@ -20,7 +21,8 @@ pub(crate) fn put_heads(
     ensures { OnOk result (rows.new ≡ with_rows (head_rows spec.now (state_of state.now)) rows.old) }
 {
     put_text(alloc, rows, "version", String::from_str(alloc, "1")?)?;
-    put_text(alloc, rows, "spec", spec_text(alloc, spec, state)?)?;
+    let names = spec_text(alloc, state.model.metamodel(), spec)?;
+    put_text(alloc, rows, "spec", names)?;
     put_number(alloc, rows, "root", u64::from(state.root.0))?;
     put_number(alloc, rows, "next", u64::from(state.model.next()))?;
     put_number(alloc, rows, "revision", state.revision)?;
@@ -32,16 +34,15 @@ pub(crate) fn put_heads(
     )
 }
 
-// The name of the metamodel's package, and that of the viewpoint.
-fn spec_text(
+/// The name of the metamodel's package, and that of the viewpoint, as the text of a row.
+pub fn spec_text(
     alloc: Global,
+    metamodel: &Metamodel,
     spec: &CheckedViewpoint,
-    state: &StateParts,
 ) -> Result<String, AllocError>
-    ensures { IfOk result (λ text. string_bytes text ≡ (spec_row state.now.model.now.metamodel spec.now.0).text) }
+    ensures { IfOk result (λ text. string_bytes text ≡ (spec_row metamodel.now spec.now.0).text) }
 {
-    let package = state.model.metamodel().package();
-    let mut text = String::from_str(alloc, package.as_str())?;
+    let mut text = String::from_str(alloc, metamodel.package().as_str())?;
     text.push_str("/")?;
     text.push_str(spec.viewpoint().content().viewpoint_name.as_str())?;
     Ok(text)

@@ -14,6 +14,8 @@ mod switched;
 mod writing;
 
 pub use changing::changes;
+pub use heads::spec_text;
 pub use laws::rows_ascend;
+pub use spelling::{position_text, roots_text};
 pub use state::{KeptState, StateParts};
 pub use writing::write_rows;

@@ -41,8 +41,8 @@ pub(crate) fn number_text(alloc: Global, number: u64) -> Result<String, AllocErr
     format!(in alloc; "{number}")
 }
 
-/// A position as text.
-pub(crate) fn position_text(alloc: Global, x: i64, y: i64) -> Result<String, AllocError>
+/// A position as the text of a row: right, a comma, and down.
+pub fn position_text(alloc: Global, x: i64, y: i64) -> Result<String, AllocError>
     ensures { IfOk result (λ text. string_bytes text ≡ position_text (x, y)) }
 {
     let mut text = signed_text(alloc, x)?;
@@ -57,8 +57,8 @@ fn signed_text(alloc: Global, number: i64) -> Result<String, AllocError>
     format!(in alloc; "{number}")
 }
 
-/// The numbers of the roots as text.
-pub(crate) fn roots_text(alloc: Global, roots: &[ObjectId]) -> Result<String, AllocError>
+/// The numbers of the roots as the text of a row, with commas between them.
+pub fn roots_text(alloc: Global, roots: &[ObjectId]) -> Result<String, AllocError>
     ensures { IfOk result (λ text. string_bytes text ≡ roots_text roots.now) }
 {
     let mut text = String::new(alloc);
