@@ -42,9 +42,15 @@ fn parsed(text: &[u8]) -> Option<u64>
     ensures { (n : ℕ) → n < 2 ^ 64 → text.now ≡ decimal n → result ≡ Some n }
 {
     match std::str::from_utf8(text) {
-        Ok(digits) => digits.parse().ok(),
+        Ok(digits) => parsed_digits(digits),
         Err(_) => None,
     }
+}
+
+fn parsed_digits(text: &str) -> Option<u64>
+    ensures { (n : ℕ) → n < 2 ^ 64 → text.now ≡ decimal n → result ≡ Some n }
+{
+    text.parse().ok()
 }
 
 // The number, if this is its text.

@@ -31,8 +31,19 @@ fn parsed(text: &[u8]) -> Option<(i64, i64)>
 fn parsed_parts(text: &str) -> Option<(i64, i64)>
     ensures { (at : Position) → IsInRange at → text.now ≡ position_text at → result ≡ Some at }
 {
-    let (x, y) = text.split_once(',')?;
-    Some((parsed_number(x)?, parsed_number(y)?))
+    match text.split_once(',') {
+        Some((x, y)) => both(parsed_number(x), parsed_number(y)),
+        None => None,
+    }
+}
+
+fn both(x: Option<i64>, y: Option<i64>) -> Option<(i64, i64)>
+    ensures { (at : Position) → x ≡ Some at.0 → y ≡ Some at.1 → result ≡ Some at }
+{
+    match (x, y) {
+        (Some(x), Some(y)) => Some((x, y)),
+        _ => None,
+    }
 }
 
 fn parsed_number(text: &str) -> Option<i64>

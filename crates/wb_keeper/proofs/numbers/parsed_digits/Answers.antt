@@ -1,0 +1,8 @@
+use Rattle.std.proofs.Common.{arith, ap, ◌∙◌}
+use Rattle.std.specs.Result.{result_ok}
+use Rattle.std.proofs.lemmas.Fmt.{parse-decimal}
+use Rattle.wb_keeper.proofs.numbers.parsed_digits.Goals as goal
+
+pub returns : goal.returns
+returns c = λ n small is.
+    c.ok.ensures.value ∙ ap result_ok (parse-decimal 64 n c.args.text.now c.parse.result small small is c.parse.ensures.value.0)
