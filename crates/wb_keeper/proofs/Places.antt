@@ -33,7 +33,7 @@ small_fits (negsuc n) h = fits_signed_from_abs w64 (negsuc n) (omega arith)
 comma_is_no_digit : IsNoDigit 44
 comma_is_no_digit b low high = grind (arith, nat_tests)
 
-digits_lack : (ds : List ℕ) → AllDigits 10 ds → Lacks 44 ds
+pub digits_lack : (ds : List ℕ) → AllDigits 10 ds → Lacks 44 ds
 digits_lack [] all = All-nil (λ b. eqb b 44 ≡ false)
 digits_lack (d ∷ ds) all =
     All-cons (λ b. eqb b 44 ≡ false) d ds

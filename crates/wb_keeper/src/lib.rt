@@ -1,6 +1,7 @@
-//! The state that kept rows spell, or the first row that is wrong.
+//! Readers of kept rows, one for each sort of row.
 #![tactic(auto)]
 
+mod heads;
 mod items;
 mod item_reading;
 mod keys;
@@ -8,6 +9,7 @@ mod numbers;
 mod objects;
 mod positions;
 mod refusal;
+mod roots;
 mod switches;
 
 pub use refusal::StoreRefusal;

@@ -15,14 +15,14 @@ pub(crate) fn read_number(alloc: Global, text: &[u8]) -> Result<Option<u64>, All
 
 /// The same, where it is the number of an object.
 pub(crate) fn read_id(alloc: Global, text: &[u8]) -> Result<Option<u32>, AllocError>
-    ensures found { IfOk result (λ it. IfSome it (λ n. text.now ≡ decimal n)) }
+    ensures found { IfOk result (λ it. IfSome it (λ n. (n < 2 ^ 32) × (text.now ≡ decimal n))) }
     ensures complete { IfOk result (λ it. (n : ℕ) → n < 2 ^ 32 → text.now ≡ decimal n → it ≡ Some n) }
 {
     Ok(narrowed(read_number(alloc, text)?))
 }
 
 fn narrowed(number: Option<u64>) -> Option<u32>
-    ensures found { IfSome result (λ n. number ≡ Some n) }
+    ensures found { IfSome result (λ n. (n < 2 ^ 32) × (number ≡ Some n)) }
     ensures complete { (n : ℕ) → n < 2 ^ 32 → number ≡ Some n → result ≡ Some n }
 {
     match number {
