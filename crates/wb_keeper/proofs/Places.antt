@@ -1,5 +1,5 @@
 -- Positions as texts.
-use Rattle.std.proofs.Common.{◌≡◌, ◌+◌, ◌<◌, ◌≤◌, ◌^◌, ℕ, suc, ℤ, pos, negsuc, false, eqb, Option, Bor, List, [], ◌∷◌, ◌++◌, refl, sym, subst, ◌∙◌, append_assoc, arith, lit<}
+use Rattle.std.proofs.Common.{◌≡◌, ◌<◌, ◌≤◌, ◌^◌, ℕ, suc, ℤ, pos, negsuc, false, eqb, Option, Bor, List, [], ◌∷◌, ◌++◌, refl, ◌∙◌, append_assoc, arith, lit<}
 use Rattle.std.specs.Prelude.{codes, decimal, nat_abs, FitsSigned}
 use Rattle.std.specs.Int.{w64}
 use Rattle.std.specs.Fmt.{signed_decimal}

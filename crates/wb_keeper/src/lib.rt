@@ -2,8 +2,8 @@
 #![tactic(auto)]
 
 mod heads;
-mod items;
 mod item_reading;
+mod items;
 mod keys;
 mod numbers;
 mod objects;

@@ -1,4 +1,4 @@
-use Rattle.std.proofs.Common.{◌≡◌, ℕ, List, ◌∷◌, None, IfOk, ap, subst, sym, ◌∙◌}
+use Rattle.std.proofs.Common.{◌≡◌, ℕ, ◌∷◌, None, IfOk, ap, subst, sym, ◌∙◌}
 use Rattle.wb_outer.specs.declared.keeper.Row.{Row}
 use Rattle.wb_rows.specs.Texts.{row}
 use Rattle.wb_keeper.specs.Items.{Says}

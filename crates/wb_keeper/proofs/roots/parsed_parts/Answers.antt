@@ -1,4 +1,4 @@
-use Rattle.std.proofs.Common.{◌≡◌, ◌<◌, ◌^◌, None, Option, Some, ℕ, List, [], ◌∷◌, ◌++◌, ap, ap₂, subst, sym, ◌∙◌, get_or, length, take, arith}
+use Rattle.std.proofs.Common.{◌≡◌, ◌<◌, ◌^◌, Option, Some, ℕ, List, [], ◌∷◌, ◌++◌, ap, ap₂, subst, sym, ◌∙◌, get_or, length, take, arith}
 use Rattle.std.specs.Prelude.{IfSome, decimal}
 use Rattle.std.proofs.lemmas.List.{take_all, take_more}
 use Rattle.std.proofs.lemmas.List.Elements.{All-nil, All-cons, All-append}
