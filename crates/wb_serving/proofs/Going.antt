@@ -1,11 +1,10 @@
 -- Turns, one after another.
-use Rattle.std.proofs.Common.{inl, inr, ◌≡◌, refl, ◌∙◌, sym, ap, subst, ℕ, ◌+◌, ◌≤◌, ◌<◌, Bool, false, List, [], ◌∷◌, ◌++◌, length, Option, None, Some, IfSome, append_assoc, append-nil, length-append, arith}
+use Rattle.std.proofs.Common.{inl, inr, ◌≡◌, refl, ◌∙◌, sym, ap, subst, ℕ, ◌+◌, ◌≤◌, ◌<◌, false, List, [], ◌∷◌, ◌++◌, length, Option, None, Some, append_assoc, append-nil, length-append, arith}
 use Rattle.std.proofs.lemmas.Bool.Decides.{nat_tests}
 use Rattle.wb_outer.specs.Door.{Connection, DoorTold, ToCome, fresh}
 use Rattle.wb_http.specs.Requests.{Whole, Bad}
 use Rattle.wb_http.proofs.Deciding.{stays_decided}
 use Rattle.wb_serving.specs.declared.ends.End.{End}
-use Rattle.wb_serving.specs.declared.ends.End.TheVariants.{Spent}
 use Rattle.wb_serving.specs.Machines.{Law, MachineTold, Keeps}
 use Rattle.wb_serving.specs.Turns.{turn_limit, Turn, Replied, Refused, NoRoom, NoRoomReading, Unkept, is_last, text, after, end_after, TakesIn}
 use Rattle.wb_serving.specs.Counts.{IsRiseOf, unkept_in, unkept_among, unkept_last}

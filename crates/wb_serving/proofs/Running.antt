@@ -1,18 +1,17 @@
 -- Connections, one after another.
-use Rattle.std.proofs.Common.{◌≡◌, refl, ◌∙◌, sym, ap, subst, inl, inr, ℕ, ◌+◌, ◌<◌, ◌≤◌, List, [], ◌∷◌, ◌++◌, length, map, Option, None, Some, IfSome, append_assoc, append-nil, length-append, arith}
+use Rattle.std.proofs.Common.{◌≡◌, refl, ◌∙◌, sym, ap, subst, inl, ℕ, ◌+◌, ◌<◌, ◌≤◌, List, [], ◌∷◌, ◌++◌, length, map, Option, None, Some, IfSome, append_assoc, append-nil, length-append, arith}
 use Rattle.std.proofs.lemmas.List.{map-append}
 use Rattle.wb_outer.specs.Door.{Connection, DoorTold, ToCome, Comes, ComesFrom}
 use Rattle.wb_outer.specs.Faults.{Rose}
-use Rattle.wb_outer.specs.declared.door.Next.{Next}
 use Rattle.wb_outer.specs.declared.door.Next.TheVariants as next
 use Rattle.wb_serving.specs.declared.ends.End.{End}
 use Rattle.wb_serving.specs.declared.ends.End.TheVariants as ends
 use Rattle.wb_serving.specs.declared.ends.Ended.TheVariants.{Closed, Stopped, Fault, Spent}
 use Rattle.wb_serving.specs.Machines.{Law, MachineTold, Keeps}
 use Rattle.wb_serving.specs.Counts.{IsRiseOf}
-use Rattle.wb_serving.specs.Connections.{Visit, IsVisit, unkept_at, IsAtHand, Served, IsServed}
+use Rattle.wb_serving.specs.Connections.{Visit, IsVisit, unkept_at, IsAtHand, IsServed}
 use Rattle.wb_serving.specs.Responses.{Leaves}
-use Rattle.wb_serving.specs.Runs.{Walks, NoneStops, LastStops, unkept_of, fault_of, faults_of, bytes_of, AreFrom, Run, Serves, IsServing}
+use Rattle.wb_serving.specs.Runs.{Walks, NoneStops, unkept_of, fault_of, faults_of, bytes_of, AreFrom, Run, Serves, IsServing}
 use Rattle.wb_serving.proofs.Replying.{rise_of_one}
 use Rattle.wb_serving.proofs.Going.{rises_on, rise_as, keeps_same, keeps_on}
 
@@ -46,9 +45,9 @@ module _ {S : Type 0} where
         from.2 ∙ ap (λ w. map bytes_of vs ++ w) (one.2 ∙ ap (λ b. b ∷ one.1) left.0) ∙ sym (append_assoc (map bytes_of vs) (bytes_of v ∷ []) one.1) ∙ ap (λ b. b ++ one.1) (sym (map-append bytes_of vs (v ∷ []))),
       )
 
-  from_none : (old : Option ToCome) → AreFrom old old ([] {A = Visit S})
-  from_none None = tt
-  from_none (Some to_come) = (to_come, refl, refl)
+  from_none : (old : Option ToCome) (visits : List (Visit S)) → visits ≡ [] → AreFrom old old visits
+  from_none None visits none = tt
+  from_none (Some to_come) visits none = (to_come, refl, ap (λ (vs : List (Visit S)). map bytes_of vs ++ to_come.waiting) (sym none))
 
   -- none came
   from_failed : (old mid new : Option ToCome) (vs : List (Visit S)) → AreFrom old mid vs → IfSome mid (λ to_come. ComesFrom to_come new next.Failed) → AreFrom old new vs
@@ -86,7 +85,7 @@ module _ {S : Type 0} (law : Law S) (m m1 m2 : MachineTold S) (d d1 d2 d3 : Door
           to_come = from_on d.to_come d1.to_come d2.to_come d3.to_come visits v run.to_come comes.to_come one.leaves;
           unkept = rise_as _ _ m.faults m2.faults (unkept_more visits v) (rises_on (unkept_of visits) (unkept_at v) m.faults m1.faults m2.faults run.unkept one.unkept keeps.later);
           faults = rise_as _ _ d.faults d3.faults (faults_more visits v)
-              (rises_on (faults_of visits + 0) (fault_of v.end) d.faults d1.faults d3.faults run.faults (subst (λ (e : End). IsRiseOf (fault_of e) d1.faults d3.faults) (sym one.end_is) (rises_on 0 (fault_of end) d1.faults d2.faults d3.faults (inl (omega (arith, comes.later))) end_fault at_hand.later)) (omega (arith, comes.later, at_hand.later)));
+              (rises_on (faults_of visits + 0) (fault_of v.end) d.faults d1.faults d3.faults run.faults (subst (λ (e : End). IsRiseOf (fault_of e) d1.faults d3.faults) (sym one.end_is) (rise_as _ _ d1.faults d3.faults (omega arith) (rises_on 0 (fault_of end) d1.faults d2.faults d3.faults (inl (omega (arith, comes.later))) end_fault at_hand.later))) (omega (arith, comes.later, at_hand.later)));
           keeps = keeps_on law m m1 m2 run.keeps keeps;
           later = omega (arith, run.later, comes.later, at_hand.later);
         },
@@ -158,7 +157,7 @@ module _ {S : Type 0} (law : Law S) (m m1 : MachineTold S) (d d1 : DoorTold) whe
   pub serving_none : IsServing law m m d d 0
   serving_none = record {
     visits = [];
-    run = record { walk = refl; taken = sym (append-nil d.taken); to_come = from_none d.to_come; unkept = inl (omega arith); faults = inl (omega arith); keeps = keeps_same law m; later = omega arith };
+    run = record { walk = refl; taken = sym (append-nil d.taken); to_come = from_none {S = S} d.to_come [] refl; unkept = inl (omega arith); faults = inl (omega arith); keeps = keeps_same law m; later = omega arith };
     none = tt;
     count_is = refl;
   }

@@ -1,10 +1,10 @@
 -- One turn: from what was read to what was written.
-use Rattle.std.proofs.Common.{◌≡◌, refl, ◌∙◌, sym, ap, subst, inl, inr, ◌⊎◌, ◌≤◌, ◌+◌, ℕ, Bool, true, false, List, [], ◌∷◌, ◌++◌, take, Option, Some, None, IfSome, Result, Ok, Err, append-nil, arith}
+use Rattle.std.proofs.Common.{◌≡◌, refl, ◌∙◌, sym, ap, subst, inl, inr, ◌≤◌, ℕ, Bool, true, false, List, [], ◌∷◌, ◌++◌, take, Option, Some, None, IfSome, Result, Ok, Err, append-nil, arith}
 use Rattle.wb_outer.proofs.Connections.{change_last}
 use Rattle.wb_outer.specs.Door.{Connection, DoorTold, ToCome, after_read, after_write, marked, change_at_hand, WritesOn}
 use Rattle.wb_outer.specs.declared.sink.Wrote.TheVariants.{Done, Failed as WriteFailed}
-use Rattle.wb_http.specs.Requests.{Takes, Whole, Bad, Short}
-use Rattle.wb_http.specs.Reading.{ReadsOne, Gives, Answers, CameFrom, IsAtEnd, end_of, taken_after}
+use Rattle.wb_http.specs.Requests.{Takes, Short}
+use Rattle.wb_http.specs.Reading.{ReadsOne, Answers, CameFrom, IsAtEnd, end_of, taken_after}
 use Rattle.wb_http.specs.declared.requests.Request.{Request}
 use Rattle.wb_http.specs.declared.requests.RequestEnd.{RequestEnd}
 use Rattle.wb_http.specs.declared.requests.RequestEnd.TheVariants as read
@@ -13,10 +13,9 @@ use Rattle.wb_serving.specs.declared.ends.End.TheVariants.{Input, Stop, Spent, C
 use Rattle.wb_serving.specs.declared.replies.Reply.{Reply}
 use Rattle.wb_serving.specs.Machines.{Law, MachineTold}
 use Rattle.wb_serving.specs.Turns.{Turn, Replied, Refused, NoRoom, NoRoomReading, Unkept, ending, stops_by, closes_by, end_after, text, after, TakesIn}
-use Rattle.wb_serving.specs.Talk.{Ends}
-use Rattle.wb_serving.specs.Counts.{IsRiseOf, unkept_in, unkept_last}
+use Rattle.wb_serving.specs.Counts.{IsRiseOf, unkept_in}
 use Rattle.wb_serving.specs.Replies.{text_in, closes_with, stops_with}
-use Rattle.wb_serving.specs.Responses.{WasHeard, Suits, IsReplyOf, Replies, Quits, Turned, Leaves, Sends, TurnOn, TakesTurn}
+use Rattle.wb_serving.specs.Responses.{WasHeard, Suits, Replies, Quits, Turned, Leaves, Sends, TurnOn, TakesTurn}
 
 -- ---- writing
 
@@ -107,7 +106,7 @@ module _ {S : Type 0} (law : Law S) (m m' : MachineTold S) (d mid d' : DoorTold)
       let at = changed_last (after_read got) d.taken mid.taken earlier c is (reads.gives.taken ∙ taken_heard heard got d.taken was) in
       let leaves = subst (λ o. Leaves d.to_come o got left.0) (sym sends.0) left.1 in
       elim (sends.1 earlier (after_read got c) at) [
-        inl whole ↦ (
+        | inl whole ↦ (
           after_write (text_in made) (after_read got c),
           whole.1,
           record {

@@ -1,5 +1,5 @@
 -- What a reply of the code says.
-use Rattle.std.specs.Prelude.{◌≡◌, Bool, true, false, List, ℕ, None, Some}
+use Rattle.std.specs.Prelude.{◌≡◌, Bool, true, false, List, ℕ, Some}
 use Rattle.wb_http.specs.declared.replies.FixedReply.TheVariants as fixed
 use Rattle.wb_http.specs.declared.routes.RouteRefusal.{RouteRefusal}
 use Rattle.wb_http.specs.declared.routes.RouteRefusal.TheVariants as refusals

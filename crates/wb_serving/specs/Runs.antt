@@ -1,6 +1,6 @@
 -- All connections of a run, over one state.
 use Rattle.std.specs.Prelude.{◌≡◌, ℕ, ◌+◌, ◌<◌, ◌≤◌, ⊤, List, [], ◌∷◌, ◌++◌, length, map, Option, Some, IfSome}
-use Rattle.wb_outer.specs.Door.{Connection, DoorTold, ToCome}
+use Rattle.wb_outer.specs.Door.{DoorTold, ToCome}
 use Rattle.wb_outer.specs.declared.door.Next.{Next}
 use Rattle.wb_outer.specs.declared.door.Next.TheVariants as next
 use Rattle.wb_serving.specs.declared.ends.End.{End}

@@ -121,18 +121,8 @@ pub(crate) fn answer_request<M: Machine>(
     ensures keeps { Keeps M.law (M.told machine.old) (M.told machine.new) }
 {
     let closes = closes_after(request, is_last);
-    match find_route(
-        alloc,
-        request.method.as_slice(),
-        request.target.as_slice(),
-    ) {
-        Ok(route) => answer_route(
-            alloc,
-            machine,
-            &route,
-            request.body.as_slice(),
-            closes,
-        ),
+    match find_route(alloc, request.method.as_slice(), request.target.as_slice()) {
+        Ok(route) => answer_route(alloc, machine, &route, request.body.as_slice(), closes),
         Err(refusal) => refuse_route(alloc, &refusal, closes),
     }
 }

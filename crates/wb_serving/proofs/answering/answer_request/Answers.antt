@@ -1,4 +1,4 @@
-use Rattle.std.proofs.Common.{◌≡◌, ◌∙◌, ◌||◌, sym, subst, Bool, Ok}
+use Rattle.std.proofs.Common.{◌≡◌, ◌∙◌, sym, subst, Ok}
 use Rattle.wb_base.specs.Answering.{IsRefusal}
 use Rattle.wb_http.specs.Routes.{refusal_of}
 use Rattle.wb_serving.specs.Turns.{route_for}

@@ -1,4 +1,4 @@
-use Rattle.std.proofs.Common.{◌∙◌, refl, sym, arith}
+use Rattle.std.proofs.Common.{◌∙◌, refl, arith}
 use Rattle.wb_serving.proofs.Going.{going_none, going_on, going_to_end, keeps_same, keeps_on, within_on}
 use Rattle.wb_serving.proofs.connection.serve_connection.Goals as goal
 
