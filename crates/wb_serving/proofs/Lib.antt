@@ -2,3 +2,4 @@ pub mod Replying
 pub mod Turning
 pub mod Going
 pub mod Running
+pub mod Counting

@@ -4,11 +4,13 @@
 mod answering;
 mod connection;
 mod ends;
+mod laws;
 mod machine;
 mod replies;
 mod serving;
 mod turn;
 
 pub use ends::{End, Ended};
+pub use laws::{all_is_kept, all_is_written};
 pub use machine::{Answer, Machine};
 pub use serving::serve;
