@@ -19,9 +19,10 @@ fn request_of(letter: u8) -> &'static str {
         b'c' => "GET /diagram HTTP/1.1\r\nHost: h\r\nConnection: close\r\n\r\n",
         b'o' => "GET /diagram HTTP/1.0\r\n\r\n",
         b's' => "POST /stop HTTP/1.1\r\nHost: h\r\nContent-Length: 0\r\n\r\n",
-        // No length of its body, no version, and no end.
+        // The length of its body lacks, or its version.
         b'l' => "POST /command HTTP/1.1\r\nHost: h\r\n\r\n",
         b'b' => "GET /diagram\r\n\r\n",
+        // Less than a request.
         _ => "GET /dia",
     }
 }

@@ -69,35 +69,51 @@ fn tally_of(alloc: Global, run: Run) -> Result<Tally, AllocError> {
     Ok(Tally { total: 0, keeper })
 }
 
-fn push_run(alloc: Global, shown: &mut String, name: &str, run: Run) -> Result<(), AllocError> {
+// How a run ended, what was written on each connection, and what was kept.
+fn shown_of(alloc: Global, run: Run) -> Result<String, AllocError> {
     let mut door = door_of(alloc, run)?;
     let mut tally = tally_of(alloc, run)?;
-    heading(shown, name)?;
+    let mut shown = String::new(alloc);
     let ended = serve(alloc, &mut door, &mut tally, run.limit)?;
-    line(shown, "ended", ended_word(ended))?;
+    line(&mut shown, "ended", ended_word(ended))?;
     for number in 0..door.line_count() {
-        push_sent(shown, door.sent(number))?;
+        push_sent(&mut shown, door.sent(number))?;
     }
-    push_rows(shown, tally.keeper.rows())
+    push_rows(&mut shown, tally.keeper.rows())?;
+    Ok(shown)
+}
+
+fn push_run(alloc: Global, shown: &mut String, name: &str, run: Run) -> Result<(), AllocError> {
+    heading(shown, name)?;
+    shown.push_str(shown_of(alloc, run)?.as_str())
+}
+
+/// The same run in one piece, in bytes, and in pieces of 7 and of 50.
+fn push_cut(alloc: Global, shown: &mut String, name: &str, run: Run) -> Result<(), AllocError> {
+    heading(shown, name)?;
+    let whole = shown_of(alloc, run)?;
+    shown.push_str(whole.as_str())?;
+    for size in [1, 7, 50] {
+        let cut = shown_of(alloc, Run { size, ..run })?;
+        let told = if cut.as_str() == whole.as_str() {
+            "same\n"
+        } else {
+            "other\n"
+        };
+        shown.push_str(told)?;
+    }
+    Ok(())
 }
 
 pub fn push(alloc: Global, shown: &mut String) -> Result<(), AllocError> {
-    let all = Run {
-        lines: &["demn+xp?", "+cd", "o+", "b+", "l+", "i+"],
-        ..PLAIN
-    };
-    push_run(alloc, shown, "each request, in one piece", all)?;
-    push_run(
+    push_cut(
         alloc,
         shown,
-        "the same in bytes",
-        Run { size: 1, ..all },
-    )?;
-    push_run(
-        alloc,
-        shown,
-        "the same in pieces of 7",
-        Run { size: 7, ..all },
+        "each request",
+        Run {
+            lines: &["demn+pidh", "+cd", "o+", "b+", "l+", "i"],
+            ..PLAIN
+        },
     )?;
     push_run(
         alloc,
@@ -133,7 +149,7 @@ pub fn push(alloc: Global, shown: &mut String) -> Result<(), AllocError> {
         shown,
         "one request too many",
         Run {
-            lines: &["m", "d"],
+            lines: &["m", "h"],
             times: 10_001,
             ..PLAIN
         },
