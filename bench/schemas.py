@@ -167,7 +167,7 @@ def check_printed(report):
     """The pictures and models that stand in the outputs of the programs of cases."""
     counts = {"diagram": 0, "model": 0}
     for path in (os.path.join(TOP, "crates", name, "stdout") for name in ("cases_program", "cases_session")):
-        for number, line in enumerate(text_of(path).splitlines(), 1):
+        for number, line in enumerate(text_of(path).split("\n"), 1):
             sort = {'{"edges"': "diagram", '{"next":': "model"}.get(line[:8])
             if sort:
                 counts[sort] += 1
