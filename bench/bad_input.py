@@ -140,14 +140,13 @@ def replies_in(answered):
     return found
 
 
-def two_pieces(stream):
-    """The stream cut in two at every byte; of a long one at the first and the last bytes alone."""
-    places = range(1, len(stream)) if len(stream) <= LONG else [*range(1, 20), *range(len(stream) - 20, len(stream))]
-    return [[stream[:n], stream[n:]] for n in places]
-
-
-def byte_by_byte(stream):
-    return [[stream[n:n + 1] for n in range(len(stream))]] if len(stream) <= LONG else []
+def ways_to_cut(chance, size):
+    """In two at every byte, of a long stream at the first and the last ones alone; a short one byte by byte; in pieces by chance."""
+    places = range(1, size) if size <= LONG else [*range(1, 20), *range(size - 20, size)]
+    ways = [lambda stream, n=n: [stream[:n], stream[n:]] for n in places]
+    if size <= LONG:
+        ways.append(lambda stream: [stream[n:n + 1] for n in range(len(stream))])
+    return ways + [lambda stream: in_pieces(chance, stream)] * 5
 
 
 class Case:
@@ -203,11 +202,9 @@ def every_request(case):
         for name, (made, wanted) in ROWS.items():
             found = replies_in(case.hold_answer(name, [made(case.now())]))
             case.hold(found == wanted, f"{name}: {found}, and wanted was {wanted}")
-            cuts = two_pieces(made(case.now())) + byte_by_byte(made(case.now())) + [in_pieces(case.chance, made(case.now())) for _ in range(5)]
-            for pieces in cuts:
-                places = [len(piece) for piece in pieces]
-                stream = made(case.now())
-                case.hold_answer(f"{name}, in pieces of {places[:9]}", [stream[sum(places[:n]):sum(places[:n + 1])] for n in range(len(places))], PAUSE)
+            for cut in ways_to_cut(case.chance, len(made(case.now()))):
+                pieces = cut(made(case.now()))
+                case.hold_answer(f"{name}, in pieces of {[len(piece) for piece in pieces][:9]}", pieces, PAUSE)
         case.hold_stop(served)
 
 
@@ -419,12 +416,16 @@ def main():
     words.add_argument("--program", default=servers.PROGRAM)
     words.add_argument("--case", choices=[case.__name__ for case in CASES])
     words = words.parse_args()
+    servers.want_free_port()
     wrong = 0
     for one in CASES:
         if words.case in (None, one.__name__):
             with tempfile.TemporaryDirectory() as folder:
                 case = Case(os.path.abspath(words.program), folder)
-                one(case)
+                try:
+                    one(case)
+                except OSError as error:
+                    case.wrong.append(f"no answer: {error}")
             wrong += len(case.wrong)
             print(f"{one.__name__}: {'as wanted' if not case.wrong else f'{len(case.wrong)} WRONG'}", flush=True)
             for what in case.wrong[:10]:

@@ -142,6 +142,7 @@ def main():
     for name, value in (("sessions", 100), ("requests", 50), ("seed", 1), ("only", None)):
         words.add_argument(f"--{name}", type=int, default=value)
     words = words.parse_args()
+    servers.want_free_port()
     wrong, total = 0, {}
     for number in range(words.sessions) if words.only is None else [words.only]:
         found, counts = talk(f"{words.seed}.{number}", FILES[number % len(FILES)], os.path.abspath(words.program), words.requests)

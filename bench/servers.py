@@ -18,6 +18,11 @@ def is_listening():
         return any(line.split()[1:4:2] == [f"0100007F:{PORT:04X}", "0A"] for line in file)
 
 
+def want_free_port():
+    if is_listening():
+        sys.exit(f"another process listens at {HOST}:{PORT}")
+
+
 class Served:
     """A run of the program with the words `serve`, three files and what follows."""
 
