@@ -317,6 +317,12 @@ def below(boxes):
         yield from below(box.inner)
 
 
+def holding_ends(edges):
+    """The keys of what lies around an end of an edge: edges are drawn over these, and under all else."""
+    ends = {tuple(edge[end].split("-")) for edge in edges for end in ("source", "target")}
+    return {"-".join(pairs[:n]) for pairs in ends for n in range(1, len(pairs))}
+
+
 def arrow(start, end):
     """The head of an edge at its end."""
     angle = math.atan2(end[1] - start[1], end[0] - start[0])
@@ -353,11 +359,13 @@ def picture(diagram, viewpoint=None):
     lay(top, BETWEEN_BANDS, ties)
     settle(top, 0, 0)
     edges = [(edge, *line_of(boxes[edge["source"]], boxes[edge["target"]], bend)) for edge, bend in zip(diagram["edges"], bends(diagram["edges"]))]
+    around = holding_ends(diagram["edges"])
     all_boxes = list(below(top))
-    flat = [box for box in all_boxes if box.kind != "node"]
-    upper = [box for box in all_boxes if box.kind == "node"] + [other for box in all_boxes for other in below(box.on_border)]
-    right = max([200, *(box.x + box.width + (BORDER_LABEL if box.kind == "border" else 0) for box in [*all_boxes, *upper])])
-    bottom = max([0, *(box.y + box.height for box in [*all_boxes, *upper])])
+    is_under = lambda box: box.key in around or box.kind == "item" and box.element["parent"] in around
+    flat = [box for box in all_boxes if is_under(box)]
+    upper = [box for box in all_boxes if not is_under(box)] + [other for box in all_boxes for other in below(box.on_border)]
+    right = max([200, *(box.x + box.width + (BORDER_LABEL if box.kind == "border" else 0) for box in [*flat, *upper])])
+    bottom = max([0, *(box.y + box.height for box in [*flat, *upper])])
     told = list(notes(diagram))
     width, height = right + 2 * MARGIN, bottom + 2 * MARGIN + LINE * (len(told) + 1)
     yield (f'<svg xmlns="http://www.w3.org/2000/svg" viewBox="{number(-MARGIN)} {number(-MARGIN)} {number(width)} {number(height)}" width="{number(width)}" '
