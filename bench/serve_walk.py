@@ -7,7 +7,7 @@ A session is a server with rows of its own, over one of three models, and fifty 
 mostly fit what stands, pictures, elements and models, and some requests of no form. Requests are cut at places by chance, and some are
 left half. Between connections a server is now and then stopped and started again over its rows.
 """
-import argparse, json, os, random, sys, tempfile
+import argparse, collections, json, os, random, sys, tempfile
 
 import servers
 from costs import TOP
@@ -34,7 +34,7 @@ class Talker:
         self.server = talks.Server(*map(talks.text_of, files))
         self.walk = walks.Walk(seed, dict(zip(("metamodel", "viewpoint", "model"), files)))
         self.walk.session = self.server.session
-        self.counts = {}
+        self.counts, self.statuses = collections.Counter(), collections.Counter()
 
     def often(self, share):
         return self.chance.random() < share
@@ -88,7 +88,7 @@ class Talker:
 
     def any_request(self):
         sort = self.chance.choices(["command", "diagram", "model", "element", "other", "body", "refused"], [66, 8, 5, 9, 4, 5, 3])[0]
-        self.counts[sort] = self.counts.get(sort, 0) + 1
+        self.counts[sort] += 1
         if sort == "refused":
             return self.chance.choice(REFUSED)
         if sort in ("command", "body"):
@@ -108,31 +108,31 @@ class Talker:
             stream, count = stream + one, count + 1
             for text, end in self.server.replies(one):
                 answered += text
+                self.statuses[text[9:12].decode()] += 1
         if self.often(0.1):
             rest = self.any_request()
             stream += rest if end else rest[:self.chance.randrange(min(len(rest), 40))]
         return stream, answered, count
 
 
-def talk(seed, files, program, count):
-    """One session; gives what is wrong, if anything, and the counts of its requests."""
-    talker = Talker(seed, files)
+def talk(talker, files, program, count):
+    """One session; gives what is wrong, if anything."""
     with tempfile.TemporaryDirectory() as folder:
         while True:
             with Served(program, folder, files) as served:
                 if not served.is_up():
-                    return f"it did not listen: {served.ended()}", talker.counts
+                    return f"it did not listen: {served.ended()}"
                 while count > 0:
                     stream, wanted, made = talker.connection(min(count, talker.chance.randrange(1, 13)))
                     count -= made
                     found = exchange(in_pieces(talker.chance, stream))
                     if found != wanted:
-                        return difference(found, wanted), talker.counts
+                        return difference(found, wanted)
                     if talker.often(0.1):
                         break
                 wrong = stop(served, talker.server)
             if wrong or count <= 0:
-                return wrong, talker.counts
+                return wrong
             talker.server.start_again()
 
 
@@ -143,15 +143,18 @@ def main():
         words.add_argument(f"--{name}", type=int, default=value)
     words = words.parse_args()
     servers.want_free_port()
-    wrong, total = 0, {}
+    wrong, counts, statuses = 0, collections.Counter(), collections.Counter()
     for number in range(words.sessions) if words.only is None else [words.only]:
-        found, counts = talk(f"{words.seed}.{number}", FILES[number % len(FILES)], os.path.abspath(words.program), words.requests)
-        for sort, times in counts.items():
-            total[sort] = total.get(sort, 0) + times
+        files = FILES[number % len(FILES)]
+        talker = Talker(f"{words.seed}.{number}", files)
+        found = talk(talker, files, os.path.abspath(words.program), words.requests)
+        counts, statuses = counts + talker.counts, statuses + talker.statuses
         if found:
             wrong += 1
             print(f"WRONG: session {number} of seed {words.seed}: {found}", flush=True)
-    print(f"requests: {', '.join(f'{times} {sort}' for sort, times in sorted(total.items()))}; {wrong} sessions are not as expected")
+    for name, found in (("requests", counts), ("replies", statuses)):
+        print(f"{name}: {', '.join(f'{times} {sort}' for sort, times in sorted(found.items()))}")
+    print(f"{wrong} sessions are not as expected")
     sys.exit(1 if wrong else 0)
 
 
