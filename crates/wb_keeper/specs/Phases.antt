@@ -12,8 +12,9 @@ use Rattle.wb_rows.specs.Texts.{Ascend, key_cmp, row}
 use Rattle.wb_rows.specs.declared.state.KeptState.{KeptState}
 use Rattle.wb_keeper.specs.Heads.{AreRoots, IsNumber, last_id, last_revision}
 use Rattle.wb_keeper.specs.Items.{Says}
-use Rattle.wb_keeper.specs.Said.{Said, state_said, wrong_together}
+use Rattle.wb_keeper.specs.Said.{state_said, wrong_together}
 use Rattle.wb_keeper.specs.declared.items.Item.{Item}
+use Rattle.wb_keeper.specs.declared.said.Said.{Said}
 use Rattle.wb_keeper.specs.declared.refusal.StoreRefusal.{StoreRefusal}
 use Rattle.wb_keeper.specs.declared.refusal.StoreRefusal.TheVariants.{At, NoMemory}
 
@@ -101,6 +102,18 @@ pub record Spell (spec : Specification) (mm : Metamodel) (rows : List Row) (said
   pub items : SayAll spec mm others said.items
 
 -- ---- what a reading answers
+
+-- what the rows say, or the first that is wrong by itself
+abbrev pub ReadsAlone : Specification → Metamodel → List Row → Result Said StoreRefusal → Type 0
+ReadsAlone spec mm rows (Ok said) = Spell spec mm rows said
+ReadsAlone spec mm rows (Err (At key)) = IsFirstWrong spec mm rows key
+ReadsAlone spec mm rows (Err NoMemory) = ⊤
+
+-- the state of what they say, or what is wrong with all together
+abbrev pub Makes : Specification → Metamodel → Said → Result KeptState StoreRefusal → Type 0
+Makes spec mm said (Ok state) = (wrong_together spec mm said ≡ None) × (state ≡ state_said mm said)
+Makes spec mm said (Err (At key)) = wrong_together spec mm said ≡ Some key
+Makes spec mm said (Err NoMemory) = ⊤
 
 abbrev pub Reads : Specification → Metamodel → List Row → Result KeptState StoreRefusal → Type 0
 Reads spec mm rows (Ok state) = (said : Said) × Spell spec mm rows said × (wrong_together spec mm said ≡ None) × (state ≡ state_said mm said)

@@ -21,14 +21,7 @@ use Rattle.wb_marks.specs.declared.marks.Marks.{Marks}
 use Rattle.wb_rows.specs.declared.state.KeptState.{KeptState}
 use Rattle.wb_keeper.specs.declared.items.Item.{Item}
 use Rattle.wb_keeper.specs.declared.items.Item.TheVariants.{Object, Placed, Shown, Hidden, Layer, Filter}
-
-pub record Said : Type 0 where
-  pub root : ℕ
-  pub next : ℕ
-  pub revision : ℕ
-  pub roots : List ℕ
-  -- what the other rows say, ascending by their keys
-  pub items : List Item
+use Rattle.wb_keeper.specs.declared.said.Said.{Said}
 
 -- ---- what of the items is of one sort
 

@@ -10,6 +10,7 @@ mod objects;
 mod positions;
 mod refusal;
 mod roots;
+mod said;
 mod switches;
 
 pub use refusal::StoreRefusal;
