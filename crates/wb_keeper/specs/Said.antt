@@ -1,5 +1,5 @@
 -- What rows say that are all right, each by itself, and the state that they spell.
-use Rattle.std.specs.Prelude.{ℕ, ◌==◌, List, [], ◌∷◌, ◌++◌, map, Option, Some, None, option_map, codes, decimal, if◌then◌else◌}
+use Rattle.std.specs.Prelude.{ℕ, ◌==◌, List, [], ◌∷◌, ◌++◌, map, Option, Some, None, option_map, ⊤, codes, decimal, if◌then◌else◌}
 use Rattle.std.specs.List.{flat_map}
 use Rattle.std.specs.Option.{option_or}
 use Rattle.std.specs.FinMap as maps
@@ -16,7 +16,7 @@ use Rattle.wb_model_json.specs.declared.rows.RowSlot.{RowSlot}
 use Rattle.wb_diagram.specs.declared.keys.AnyKey.{AnyKey}
 use Rattle.wb_diagram.specs.declared.keys.Key.{Key}
 use Rattle.wb_spec_check.specs.Checked.{Specification}
-use Rattle.wb_layout.specs.Positions.{Positions, placed}
+use Rattle.wb_layout.specs.Positions.{IsInRange, Positions, placed}
 use Rattle.wb_marks.specs.declared.marks.Marks.{Marks}
 use Rattle.wb_rows.specs.declared.state.KeptState.{KeptState}
 use Rattle.wb_keeper.specs.declared.items.Item.{Item}
@@ -71,6 +71,15 @@ filter_in (Shown key) = []
 filter_in (Hidden key) = []
 filter_in (Layer n) = []
 filter_in (Filter n) = n ∷ []
+
+-- a position that is said is in range
+abbrev pub IsPlacedInRange : Item → Type 0
+IsPlacedInRange (Object o r) = ⊤
+IsPlacedInRange (Placed key at) = IsInRange at
+IsPlacedInRange (Shown key) = ⊤
+IsPlacedInRange (Hidden key) = ⊤
+IsPlacedInRange (Layer n) = ⊤
+IsPlacedInRange (Filter n) = ⊤
 
 -- the positions, with that of one more item
 abbrev pub placed_too : Positions → Item → Positions

@@ -1,6 +1,7 @@
 //! The state that rows spell.
 ghost use Rattle.std.specs.Prelude.{◌≡◌, All, IfOk};
-ghost use Rattle.wb_keeper.specs.Said.{IsOver};
+ghost use Rattle.wb_store.specs.Parts.{AreParts};
+ghost use Rattle.wb_keeper.specs.Said.{IsPlacedInRange, parts_said};
 ghost use Rattle.wb_keeper.specs.Phases.{Makes};
 
 use crate::refusal::StoreRefusal;
@@ -17,5 +18,6 @@ pub(crate) fn state_of(
     metamodel: Metamodel,
     said: Said,
 ) -> Result<KeptState, StoreRefusal>
-    requires { All (IsOver metamodel) said.items }
+    requires parts { AreParts metamodel (parts_said metamodel said) }
+    requires placed { All IsPlacedInRange said.items }
     ensures { Makes spec.now metamodel said result }
