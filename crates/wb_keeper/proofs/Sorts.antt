@@ -1,5 +1,6 @@
 -- What items say, sort by sort, with one more item.
 use Rattle.std.proofs.Common.{◌≡◌, ℕ, List, [], ◌∷◌, ◌++◌, Bool, true, ◌&&◌, map, length, refl, sym, ap, ◌∙◌, get_or, subst, arith}
+use Rattle.std.specs.Prelude.{nat_lt}
 use Rattle.std.specs.List.{All, flat_map, list_all}
 use Rattle.std.specs.FinMap as maps
 use Rattle.std.proofs.lemmas.Bool.{and_parts}
@@ -11,7 +12,9 @@ use Rattle.wb_store.specs.declared.parts.Part.{Part}
 use Rattle.wb_store.specs.declared.records.Slot.{Slot}
 use Rattle.wb_store.specs.Parts.{are_known, record_of, slot_of}
 use Rattle.wb_store.specs.Records.{is_known, is_known_slot}
+use Rattle.wb_store.specs.declared.parts.SlotPart.{SlotPart}
 use Rattle.wb_model_json.specs.declared.rows.ObjectRow.{ObjectRow}
+use Rattle.wb_model_json.specs.declared.rows.RowSlot.{RowSlot}
 use Rattle.wb_layout.specs.Positions.{Positions}
 use Rattle.wb_marks.specs.declared.marks.Marks.{Marks}
 use Rattle.wb_keeper.specs.Said.{IsPlacedInRange, all_placed, filter_in, hidden_in, layer_in, marked_too, marks_of, part_in, part_of, placed_too, shown_in, slot_part}
@@ -61,6 +64,14 @@ marks_more items item = marks_by items item ∙ marked_so (marks_of items) item
 
 pub parts_more : (mm : Metamodel) (items : List Item) (item : Item) → flat_map (part_in mm) (items ++ item ∷ []) ≡ flat_map (part_in mm) items ++ part_in mm item
 parts_more mm items item = more (part_in mm) items item
+
+-- the features of a known object's slots
+pub slots_known : (mm : Metamodel) (o : ℕ) (r : ObjectRow) → is_known mm (record_of (part_of mm o r)) ≡ true
+    → list_all (λ (s : RowSlot). nat_lt s.feature (length mm.features)) r.slots ≡ true
+slots_known mm o r known =
+    sym (list_all-map (λ (s : SlotPart). is_known_slot mm (slot_of s)) (slot_part mm) r.slots)
+    ∙ sym (list_all-map (is_known_slot mm) slot_of (map (slot_part mm) r.slots))
+    ∙ (and_parts _ _ known).1
 
 -- the classes and features of the first item, and of the others
 pub known_each : (mm : Metamodel) (item : Item) (items : List Item) → are_known mm (flat_map (part_in mm) (item ∷ items)) ≡ true

@@ -39,9 +39,7 @@ fn key_of_breach(alloc: Global, number: u8, object: Option<ObjectId>) -> Result<
     ensures { IfOk result (λ key. key ≡ key_of_breach (number, object)) }
 {
     match object {
-        Some(o) => Ok(Bytes::from_vec(
-            format!(in alloc; "o/{}", o.0)?.into_bytes(),
-        )),
+        Some(o) => Ok(Bytes::from_vec(format!(in alloc; "o/{}", o.0)?.into_bytes())),
         None => copied(alloc, if number == 1 { "next" } else { "roots" }),
     }
 }
