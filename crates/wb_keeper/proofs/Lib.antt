@@ -2,3 +2,4 @@ pub mod Places
 pub mod RootTexts
 pub mod Sorts
 pub mod Together
+pub mod Spelled
