@@ -5,6 +5,7 @@ use Rattle.std.specs.Ordering.{is_lt}
 use Rattle.std.specs.FinMap as maps
 use Rattle.wb_outer.specs.declared.keeper.Row.{Row}
 use Rattle.wb_validity.specs.Valid.{conforms_to}
+use Rattle.wb_diagram.specs.Keys.{key_text}
 use Rattle.wb_diagram.specs.declared.keys.AnyKey.{AnyKey}
 use Rattle.wb_diagram.specs.declared.keys.AnyKey.TheVariants.{Node}
 use Rattle.wb_diagram.specs.declared.keys.EdgeKey.{EdgeKey}

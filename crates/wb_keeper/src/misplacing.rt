@@ -196,13 +196,7 @@ fn lesser(key: Bytes, other: Option<Bytes>) -> Bytes
     ensures { result ≡ lesser key other }
 {
     match other {
-        Some(other) => {
-            if other < key {
-                other
-            } else {
-                key
-            }
-        }
+        Some(other) => { if other < key { other } else { key } }
         None => key,
     }
 }

@@ -11,6 +11,6 @@ loop-i-preserved c =
     let i = c.loop-i.i in
     let key = c.in-Some.key.now in
     let at = sym c.in-Some.ensures in
-    c.lesser_of.ensures
+    c.lesser_of-found.ensures
     ∙ one_more placed_key (is_placed_right c.args.spec.now c.args.declared.now.nodes.keys) (keys m) i key c.loop-i.found _
     (slice_get_within (keys m) i key at) (sym (get_or_from_slice_get (keys m) i key key at)) c.loop-i.invariant c.in_ok-if_placed_wrong.ensures
