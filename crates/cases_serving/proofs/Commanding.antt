@@ -17,8 +17,8 @@ is_not_less n more = grind (arith, nat_tests)
 
 module _ (told : MachineTold ℕ) (body : List ℕ) (close : Bool) where
   pub said : (status : ℕ) (text : List ℕ) (answer : Answer) → commanded (bytes_eq body (codes "+")) (nat_lt told.state 9) told.state ≡ says status text told.state → Says (response status None close text) answer → Answers tally_law told told Command body close answer
-  said status text (Made given) is due = record { answered = (due ∙ ap (λ o. text_of o close) (sym is), ap (λ o. o.after) (sym is)); keeps = record { rows = λ was. was; later = omega arith }; failed = λ f. cc }
-  said status text NoMemory is due = record { answered = refl; keeps = record { rows = λ was. was; later = omega arith }; failed = λ f. cc }
+  said status text (Made given) is due = record { answered = (due ∙ ap (λ o. text_of o close) (sym is), ap (λ o. o.after) (sym is)); keeps = record { rows = λ was. was; later = omega arith; lenders = refl }; failed = λ f. cc }
+  said status text NoMemory is due = record { answered = refl; keeps = record { rows = λ was. was; later = omega arith; lenders = refl }; failed = λ f. cc }
   said status text Unkept is due = absurd due
 
   pub added : (new : MachineTold ℕ) (answer : Answer) → bytes_eq body (codes "+") ≡ true → nat_lt told.state 9 ≡ true → Adds told new close answer → Answers tally_law told new Command body close answer

@@ -42,7 +42,7 @@ abbrev pub tally_law : Law ℕ
 tally_law = record { reply = reply; rows_of = rows_of }
 
 abbrev pub tally_told : Tally → MachineTold ℕ
-tally_told tally = record { state = tally.total; rows = (memory_told tally.keeper).rows; faults = (memory_told tally.keeper).faults }
+tally_told tally = record { state = tally.total; rows = (memory_told tally.keeper).rows; faults = (memory_told tally.keeper).faults; lenders = [] }
 
 -- the reply, or want of memory
 abbrev pub Says : List ℕ → Answer → Type 0

@@ -76,10 +76,10 @@ unkept_on (u ∷ ts) t = let rest = unkept_on ts t in omega (arith, rest)
 -- ---- what a machine keeps
 
 pub keeps_same : {S : Type 0} (law : Law S) (m : MachineTold S) → Keeps law m m
-keeps_same law m = record { rows = λ was. was; later = omega arith }
+keeps_same law m = record { rows = λ was. was; later = omega arith; lenders = refl }
 
 pub keeps_on : {S : Type 0} (law : Law S) (m m1 m2 : MachineTold S) → Keeps law m m1 → Keeps law m1 m2 → Keeps law m m2
-keeps_on law m m1 m2 first second = record { rows = λ was. second.rows (first.rows was); later = omega (arith, first.later, second.later) }
+keeps_on law m m1 m2 first second = record { rows = λ was. second.rows (first.rows was); later = omega (arith, first.later, second.later); lenders = second.lenders ∙ first.lenders }
 
 -- ---- the connection at hand
 

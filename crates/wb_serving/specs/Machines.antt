@@ -1,5 +1,6 @@
 -- What a machine answers to requests of routes, and what it tells.
 use Rattle.std.specs.Prelude.{◌≡◌, ℕ, ◌≤◌, Bool, List, Option, Some}
+use Rattle.std.specs.Borrow.{GName}
 use Rattle.wb_outer.specs.Faults.{Rose}
 use Rattle.wb_outer.specs.declared.keeper.Row.{Row}
 use Rattle.wb_http.specs.declared.routes.Route.{Route}
@@ -21,11 +22,12 @@ pub record Law (S : Type 0) : Type 0 where
   pub reply : S → Route → List ℕ → Outcome S
   pub rows_of : S → List Row
 
--- what a machine tells: its state, the rows of its keeper where they are told, and the keeper's count of faults
+-- what a machine tells: its state, the rows of its keeper where they are told, the keeper's count of faults, and the names of what is lent to it
 pub record MachineTold (S : Type 0) : Type 0 where
   pub state : S
   pub rows : Option (List Row)
   pub faults : ℕ
+  pub lenders : List GName
 
 -- the bytes of a reply
 abbrev pub text_of : {S : Type 0} → Outcome S → Bool → List ℕ
@@ -46,10 +48,11 @@ AnswersBy law s s' route body close (Made text) = (text ≡ text_of (law.reply s
 AnswersBy law s s' route body close NoMemory = s' ≡ s
 AnswersBy law s s' route body close Unkept = (s' ≡ s) × IsAccepted law s route body
 
--- rows that are those of the state stay so, and the count never falls
+-- rows that are those of the state stay so, the count never falls, and what is lent stays lent
 pub record Keeps {S : Type 0} (law : Law S) (old new : MachineTold S) : Type 0 where
   pub rows : old.rows ≡ Some (law.rows_of old.state) → new.rows ≡ Some (law.rows_of new.state)
   pub later : old.faults ≤ new.faults
+  pub lenders : new.lenders ≡ old.lenders
 
 -- a request was answered
 pub record Answers {S : Type 0} (law : Law S) (old new : MachineTold S) (route : Route) (body : List ℕ) (close : Bool) (answer : Answer) : Type 0 where
