@@ -1,4 +1,6 @@
 ghost use Rattle.std.specs.Prelude.{◌≡◌, IfOk};
+ghost use Rattle.wb_diagram.specs.Diagrams.{IsWritableDiagram};
+ghost use Rattle.wb_picture.specs.Picture.{mapping_names};
 ghost use Rattle.wb_session.specs.Pictures.{picture, served};
 
 use crate::session::Session;
@@ -11,7 +13,8 @@ use wb_diagram::Diagram;
 impl<E: Evaluator> Session<E> {
     /// What is served: what is visible of what is declared, with its position.
     pub fn diagram(&self, alloc: Global) -> Result<Diagram, AllocError>
-        ensures { IfOk result (λ it. it ≡ picture E.outcome_by self.now) }
+        ensures picture { IfOk result (λ it. it ≡ picture E.outcome_by self.now) }
+        ensures writable { IfOk result (IsWritableDiagram (mapping_names self.now.spec.0)) }
     {
         picture_of(alloc, &self.spec, &self.diagram, &self.marks, self.revision)
     }

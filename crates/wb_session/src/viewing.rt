@@ -1,4 +1,5 @@
 ghost use Rattle.std.specs.Prelude.{◌≡◌, IfOk};
+ghost use Rattle.wb_diagram.specs.Diagrams.{IsWritableDiagram};
 ghost use Rattle.wb_picture.specs.Picture as pictures;
 ghost use Rattle.wb_refresh.specs.Openings.{IsOpened};
 ghost use Rattle.wb_refresh.specs.Outcomes.{Gives};
@@ -24,8 +25,9 @@ pub(crate) fn picture_of<E>(
     revision: u64,
 ) -> Result<Diagram, AllocError>
     requires { CanBeShown spec.now diagram.now }
-    ensures { (gives : Gives) (s : Subject) → s.setting.spec ≡ spec.now → IsOpened gives s diagram.now
+    ensures picture { (gives : Gives) (s : Subject) → s.setting.spec ≡ spec.now → IsOpened gives s diagram.now
         → IfOk result (λ it. it ≡ pictures.picture (seen gives s marks.now) (declarations gives s) revision) }
+    ensures writable { IfOk result (IsWritableDiagram (pictures.mapping_names spec.now.0)) }
 {
     let view = View {
         switches: Switches {

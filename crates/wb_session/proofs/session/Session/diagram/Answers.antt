@@ -1,6 +1,8 @@
 use Rattle.std.proofs.Common.{◌≡◌, refl, subst}
 use Rattle.std.specs.Prelude.{IfOk}
+use Rattle.wb_diagram.specs.Diagrams.{IsWritableDiagram}
 use Rattle.wb_diagram.specs.declared.diagrams.Diagram.{Diagram}
+use Rattle.wb_picture.specs.Picture.{mapping_names}
 use Rattle.wb_session.specs.Pictures.{picture}
 use Rattle.wb_session.specs.States.{State, subject_of}
 use Rattle.wb_session.specs.invariants.Keeping.{state_of}
@@ -12,9 +14,13 @@ picture_of-requires g c =
     let i = c.self.inside in
     can_be_shown g.E.Evaluator.outcome_by (subject_of (state_of i.spec i.root i.model i.marks i.revision i.history)) i.diagram c.self.invariant.opened
 
-pub returns : goal.returns
+pub returns-clause-picture : goal.returns-clause-picture
 unfolding picture
-returns g c =
+returns-clause-picture g c =
     let i = c.self.inside in
     subst (λ (s : State). IfOk c.picture_of.result (λ (it : Diagram). it ≡ picture g.E.Evaluator.outcome_by s)) c.self.view_is
-    (c.picture_of.ensures g.E.Evaluator.outcome_by (subject_of (state_of i.spec i.root i.model i.marks i.revision i.history)) refl c.self.invariant.opened)
+    (c.picture_of.ensures.picture g.E.Evaluator.outcome_by (subject_of (state_of i.spec i.root i.model i.marks i.revision i.history)) refl c.self.invariant.opened)
+
+pub returns-clause-writable : goal.returns-clause-writable
+returns-clause-writable g c =
+    subst (λ (s : State). IfOk c.picture_of.result (IsWritableDiagram (mapping_names s.spec.0))) c.self.view_is c.picture_of.ensures.writable

@@ -1,0 +1,4 @@
+pub mod States
+pub mod Replies
+pub mod Keeping
+pub mod Opening
