@@ -69,6 +69,27 @@ impl<E: Evaluator> Session<E> {
         &self.model
     }
 
+    /// The viewpoint.
+    pub fn spec(&self) -> &CheckedViewpoint
+        ensures { result.now ≡ self.now.spec }
+    {
+        &self.spec
+    }
+
+    /// The root element.
+    pub fn root(&self) -> ObjectId
+        ensures { result ≡ self.now.root }
+    {
+        self.root
+    }
+
+    /// What users put on the diagram.
+    pub fn marks(&self) -> &Marks
+        ensures { result.now ≡ self.now.body.marks }
+    {
+        &self.marks
+    }
+
     /// The number of commands that were accepted so far.
     pub fn revision(&self) -> u64
         ensures { result ≡ self.now.revision }
