@@ -1,6 +1,7 @@
 pub mod Answering
 pub mod Laws
 pub mod Opening
+pub mod Resuming
 pub mod Pictures
 pub mod Planning
 pub mod RefusalTexts
