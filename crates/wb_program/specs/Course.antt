@@ -5,6 +5,8 @@ use Rattle.wb_base.specs.Options as options
 use Rattle.wb_outer.specs.declared.shelf.Taken.{Taken}
 use Rattle.wb_outer.specs.declared.shelf.Call.{Call}
 use Rattle.wb_program.specs.declared.answer.Answer.{Answer}
+use Rattle.wb_program.specs.declared.fate.Fate.{Fate}
+use Rattle.wb_program.specs.declared.fate.Fate.TheVariants.{Prints}
 
 -- it gives a value to the next step, or ends the run with an answer, or asks for a file and goes on with what it is given
 pub data Course (A : Type 0) : Type 0 where
@@ -26,12 +28,12 @@ after (gives x) (call ∷ calls) = None
 after (stops answer) (call ∷ calls) = None
 after (asks name next) (call ∷ calls) = if same_name call.name name then after (next call.answer) calls else None
 
--- the answer of a course that asks for nothing more
-abbrev pub answered : Course Answer → Option Answer
-answered (gives answer) = Some answer
-answered (stops answer) = Some answer
-answered (asks name next) = None
+-- what becomes of a run whose course asks for nothing more
+abbrev pub fated : Course Fate → Option Fate
+fated (gives fate) = Some fate
+fated (stops answer) = Some (Prints answer)
+fated (asks name next) = None
 
--- the answer after these calls, where they are exactly those that the course asks for
-abbrev pub play : Course Answer → List Call → Option Answer
-play course calls = options.◌>>=◌ (after course calls) answered
+-- what becomes of it after these calls, where they are exactly those that the course asks for
+abbrev pub play : Course Fate → List Call → Option Fate
+play course calls = options.◌>>=◌ (after course calls) fated

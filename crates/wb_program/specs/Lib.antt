@@ -8,8 +8,10 @@ pub mod Course
 pub mod Drawing
 pub mod Files
 pub mod Opening
+pub mod Printing
 pub mod Reading
 pub mod Runs
+pub mod Serving
 pub mod Steps
 pub mod Taking
 pub mod Tasks

@@ -10,6 +10,8 @@ use Rattle.wb_spec_check.specs.Checked.{Specification, checked}
 use Rattle.wb_model_json.specs.ModelFile.{model}
 use Rattle.wb_session.specs.Opening.{root_element}
 use Rattle.wb_program.specs.declared.answer.Answer.{Answer}
+use Rattle.wb_program.specs.declared.fate.Fate.{Fate}
+use Rattle.wb_program.specs.declared.fate.Fate.TheVariants.{Prints, Serves}
 use Rattle.wb_program.specs.Words.{Sources, Task, check, draw, serve, big, task_of}
 use Rattle.wb_program.specs.Answers.{not_built, usage, no_root_element}
 use Rattle.wb_program.specs.CodeNames.{metamodel_code_name, viewpoint_code_name, model_code_name}
@@ -18,7 +20,7 @@ use Rattle.wb_program.specs.Course.{Course, gives, stops, ◌>>=◌}
 use Rattle.wb_program.specs.Drawing.{drawn}
 use Rattle.wb_program.specs.Taking.{taken}
 use Rattle.wb_program.specs.Reading.{or_refused, or_else}
-use Rattle.wb_program.specs.Files.{Files, answer_over}
+use Rattle.wb_program.specs.Files.{Files, fate_over}
 
 -- ---- files
 
@@ -58,22 +60,37 @@ drawing sources = do
   m ← model_under mm sources.model
   picture_from sources.model spec m
 
+-- a server of a model that has a root element, which stands in the file of this name
+unfoldable pub served_from : List ℕ → Specification → Contents → (connections : ℕ) → Course Fate
+served_from name spec m connections = or_else (no_root_element name) (root_element m spec.1.domain) >>= (λ _. gives (Serves spec m connections))
+
+-- the course of `serve`
+unfoldable pub serving : Sources → (connections : ℕ) → Course Fate
+serving sources connections = do
+  mm ← metamodel_under sources.metamodel
+  spec ← checked_under mm sources.viewpoint
+  m ← model_under mm sources.model
+  served_from sources.model spec m connections
+
+abbrev pub printed : Answer → Course Fate
+printed answer = gives (Prints answer)
+
 -- the course of a task
-abbrev pub task_course : Task → Course Answer
-task_course (check metamodel viewpoint) = checking metamodel viewpoint
-task_course (draw sources) = drawing sources
-task_course (serve sources connections) = stops not_built
+abbrev pub task_course : Task → Course Fate
+task_course (check metamodel viewpoint) = checking metamodel viewpoint >>= printed
+task_course (draw sources) = drawing sources >>= printed
+task_course (serve sources connections) = serving sources connections
 task_course (big number) = stops not_built
 
 -- the course for words of a form, or of none
-abbrev pub course_for : Option Task → Course Answer
+abbrev pub course_for : Option Task → Course Fate
 course_for None = stops usage
 course_for (Some task) = task_course task
 
 -- the course of a run on these words
-unfoldable pub course_of : List (List ℕ) → Course Answer
+unfoldable pub course_of : List (List ℕ) → Course Fate
 course_of words = course_for (task_of words)
 
--- what a run prints and how it ends, as a function of its words and of the files
-abbrev pub answer_to : List (List ℕ) → Files → Answer
-answer_to words files = answer_over files (course_of words)
+-- what becomes of a run, as a function of its words and of the files
+abbrev pub fate_of : List (List ℕ) → Files → Fate
+fate_of words files = fate_over files (course_of words)

@@ -1,66 +1,70 @@
 -- How a run ends.
-use Rattle.std.specs.Prelude.{ℕ, ◌≡◌, ◌⊎◌, List, [], ◌∷◌, ◌++◌, take, Option, Some, None, IsSome, IsErr, Result, Ok, Err}
+use Rattle.std.specs.Prelude.{◌≡◌, List, Option, Some, None, IsSome, IsErr, Result, Ok, Err, ⊤}
 use Rattle.wb_outer.specs.Faults.{Rose}
 use Rattle.wb_outer.specs.declared.shelf.Call.{Call}
 use Rattle.wb_outer.specs.Shelf.{ShelfTold}
-use Rattle.wb_outer.specs.Sink.{SinkTold}
 use Rattle.wb_program.specs.declared.status.Status.{Status}
-use Rattle.wb_program.specs.declared.status.Status.TheVariants.{SinkFault, NoMemory}
+use Rattle.wb_program.specs.declared.status.Status.TheVariants.{NoMemory}
 use Rattle.wb_program.specs.declared.answer.Answer.{Answer}
+use Rattle.wb_program.specs.declared.fate.Fate.{Fate}
+use Rattle.wb_program.specs.declared.fate.Fate.TheVariants.{Prints, Serves}
 use Rattle.wb_program.specs.declared.answer.Ending.{Ending}
 use Rattle.wb_program.specs.declared.answer.Ending.TheVariants as ending
 use Rattle.wb_program.specs.Course.{Course, after, play}
 use Rattle.wb_program.specs.Steps.{Gave}
 use Rattle.wb_program.specs.Files.{Files}
+use Rattle.wb_program.specs.Serving.{CanServe, IsQuiet, IsServed, IsTold, Outside}
 
--- the answer's text was handed to the sink in one write, and taken whole; the status is the answer's
-pub record Prints (answer : Answer) (status : Status) (old new : SinkTold) : Type 0 where
-  pub ended : status ≡ answer.status
-  pub handed : new.handed ≡ old.handed ++ answer.text ∷ []
-  pub took : new.took ≡ old.took ++ answer.text
+-- an answer is printed, and a session is served
+abbrev pub Meets : Fate → Status → Outside → Outside → Type 0
+Meets (Prints answer) status old new = IsTold answer status old new
+Meets (Serves spec m connections) status old new = IsServed spec m connections status old new
 
--- the answer's text was handed to the sink in one write, which failed, and took a front of it
-pub record Fails (answer : Answer) (status : Status) (old new : SinkTold) : Type 0 where
-  pub ended : status ≡ SinkFault
-  pub handed : new.handed ≡ old.handed ++ answer.text ∷ []
-  pub count : ℕ
-  pub took : new.took ≡ old.took ++ take count answer.text
-  pub rose : Rose old.faults new.faults
+-- what is needed of it
+abbrev pub CanBeMet : Fate → Type 0
+CanBeMet (Prints answer) = ⊤
+CanBeMet (Serves spec m connections) = CanServe spec m
 
-abbrev pub IsPrinted : Answer → Status → SinkTold → SinkTold → Type 0
-IsPrinted answer status old new = Prints answer status old new ⊎ Fails answer status old new
+abbrev pub IsPrint : Fate → Type 0
+IsPrint (Prints answer) = ⊤
+IsPrint (Serves spec m connections) = ⊥
 
--- the answer that a course came to is printed
-abbrev pub IsPlayed : Option Answer → Status → SinkTold → SinkTold → Type 0
+-- an answer of a step is printed
+abbrev pub Prepares : Result Answer Ending → Result Fate Ending → Type 0
+Prepares (Ok answer) result = result ≡ Ok (Prints answer)
+Prepares (Err e) result = result ≡ Err e
+
+-- what a course came to is met
+abbrev pub IsPlayed : Option Fate → Status → Outside → Outside → Type 0
 IsPlayed None status old new = ⊥
-IsPlayed (Some answer) status old new = IsPrinted answer status old new
+IsPlayed (Some fate) status old new = Meets fate status old new
 
--- what a run decided on before it prints
-abbrev pub Concludes : {E : Type 0} → Option (Course Answer) → Option Answer → Result Answer E → Type 0
-Concludes left answer (Ok given) = answer ≡ Some given
-Concludes left answer (Err e) = IsSome left
+-- what a run decided on before it prints or serves
+abbrev pub Concludes : {E : Type 0} → Option (Course Fate) → Option Fate → Result Fate E → Type 0
+Concludes left fate (Ok given) = fate ≡ Some given
+Concludes left fate (Err e) = IsSome left
 
--- the answer of the last step is that of the run
-abbrev pub Settles : {E : Type 0} → Result Answer Ending → Result Answer E → Type 0
-Settles (Ok answer) result = result ≡ Ok answer
-Settles (Err (ending.Answer answer)) result = result ≡ Ok answer
+-- what the last step comes to is what becomes of the run
+abbrev pub Settles : {E : Type 0} → Result Fate Ending → Result Fate E → Type 0
+Settles (Ok fate) result = result ≡ Ok fate
+Settles (Err (ending.Answer answer)) result = result ≡ Ok (Prints answer)
 Settles (Err ending.NoMemory) result = IsErr result
 
-pub record IsDecision {E : Type 0} (result : Result Answer E) (course : Course Answer) (old new : ShelfTold) : Type 0 where
+pub record IsDecision {E : Type 0} (result : Result Fate E) (course : Course Fate) (old new : ShelfTold) : Type 0 where
   pub calls : List Call
   pub gave : Gave old new calls
   pub concludes : Concludes (after course calls) (play course calls) result
 
--- A run goes along its course by what the shelf gave, and prints the answer to which it came. Where memory was wanting it may
--- have come anywhere on the way, and nothing is handed to the sink.
-pub record Runs (course : Course Answer) (status : Status) (shelf_old shelf_new : ShelfTold) (sink_old sink_new : SinkTold) : Type 0 where
+-- A run goes along its course by what the shelf gave, and meets what it came to: it prints an answer, or serves. Where memory
+-- was wanting it may have come anywhere on the way; nothing is handed to the sink, and the door was not asked.
+pub record Runs (course : Course Fate) (status : Status) (shelf_old shelf_new : ShelfTold) (old new : Outside) : Type 0 where
   pub calls : List Call
   pub gave : Gave shelf_old shelf_new calls
   pub along : IsSome (after course calls)
-  pub printed : ¬ (status ≡ NoMemory) → IsPlayed (play course calls) status sink_old sink_new
-  pub memory : status ≡ NoMemory → sink_new ≡ sink_old
+  pub met : ¬ (status ≡ NoMemory) → IsPlayed (play course calls) status old new
+  pub memory : status ≡ NoMemory → IsQuiet old new
 
--- where no count of the shelf rose, and memory was not wanting, the answer is that of the files
-abbrev pub IsOfFiles : (Files → Answer) → Status → ShelfTold → ShelfTold → SinkTold → SinkTold → Files → Type 0
-IsOfFiles answer status shelf_old shelf_new sink_old sink_new files =
-    ¬ (Rose shelf_old.faults shelf_new.faults) → ¬ (status ≡ NoMemory) → IsPrinted (answer files) status sink_old sink_new
+-- where no count of the shelf rose, and memory was not wanting, what becomes of the run is what the files say
+abbrev pub IsOfFiles : (Files → Fate) → Status → ShelfTold → ShelfTold → Outside → Outside → Files → Type 0
+IsOfFiles fate status shelf_old shelf_new old new files =
+    ¬ (Rose shelf_old.faults shelf_new.faults) → ¬ (status ≡ NoMemory) → Meets (fate files) status old new

@@ -93,7 +93,8 @@ pub fn diagram_too_large(alloc: Global) -> Result<Answer, AllocError>
     })
 }
 
-fn named_line(
+/// A line of words and a name.
+pub fn named_line(
     alloc: Global,
     status: Status,
     words: &[u8],

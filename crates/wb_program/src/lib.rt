@@ -6,11 +6,15 @@ mod checking;
 mod code_names;
 mod commands;
 mod drawing;
+mod fate;
 mod files;
 mod forms;
+mod opened;
 mod opening;
+mod printing;
 mod problem_lines;
 mod run;
+mod serving;
 mod status;
 mod words;
 
