@@ -1,6 +1,7 @@
 ghost use Rattle.std.specs.Prelude.{◌≡◌, ◌+◌, ◌≤◌, length};
 ghost use Rattle.wb_declared.specs.Declarations.{declared_edges, declared_nodes};
 ghost use Rattle.wb_refresh.specs.Openings.{IsOpened, all_units};
+ghost use Rattle.wb_rows.specs.States.{CanBeWritten};
 ghost use Rattle.wb_session.specs.States.{IsGood, model_of, subject_of};
 
 use crate::entries::Entry;
@@ -60,6 +61,34 @@ impl<E: Evaluator> Session<E> {
         ensures { IsGood E.outcome_by self.now }
     {
         let _ = &self.model;
+    }
+
+    /// A law: what is marked or placed can be written.
+    pub fn marks_can_be_written(&self)
+        ensures { CanBeWritten self.now.body.marks }
+    {
+        let _ = &self.model;
+    }
+
+    /// The viewpoint.
+    pub fn spec(&self) -> &CheckedViewpoint
+        ensures { result.now ≡ self.now.spec }
+    {
+        &self.spec
+    }
+
+    /// The root element.
+    pub fn root(&self) -> ObjectId
+        ensures { result ≡ self.now.root }
+    {
+        self.root
+    }
+
+    /// What users put on the diagram.
+    pub fn marks(&self) -> &Marks
+        ensures { result.now ≡ self.now.body.marks }
+    {
+        &self.marks
     }
 
     /// The model as it stands.
