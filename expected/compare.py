@@ -5,12 +5,14 @@
 
 The words of such a program, in its `args`, are files in threes: a metamodel, a model, and a script of edits and looks or a file of
 expressions. Or they are `.json` files of cases, of sessions where a case has `steps`, else of the whole program; or a `.bodies` file of
-bodies of commands, or `.http` files of connections. Its `stdout` is what the gate holds its output to.
+bodies of commands, or `.http` files of connections. One has no words. Its `stdout` is what the gate holds its output to.
 """
 import glob, itertools, json, os, sys
-import commands, evaluations, models, program, requests, sessions
+import commands, evaluations, models, program, requests, serving, sessions
 
 TOP = os.path.dirname(os.path.dirname(os.path.abspath(__file__)))
+# Programs without words.
+WORDLESS = {"cases_serving": serving.lines}
 MAKERS = {".script": models.lines, ".expressions": evaluations.lines}
 
 
@@ -34,11 +36,18 @@ def made(folder, names):
     return list(itertools.chain.from_iterable(MAKERS[os.path.splitext(last)[1]](one, other, last) for one, other, last in threes))
 
 
-def main():
-    wrong = compared = 0
+def programs():
+    """Each program's folder, with the lines for it; none where it is of another kind."""
     for args in sorted(glob.glob(os.path.join(TOP, "crates/*/args"))):
         folder = os.path.dirname(args)
-        wanted = made(folder, models.text_of(args).split())
+        yield folder, made(folder, models.text_of(args).split())
+    for name, lines in WORDLESS.items():
+        yield os.path.join(TOP, "crates", name), lines()
+
+
+def main():
+    wrong = compared = 0
+    for folder, wanted in programs():
         if wanted is None:
             continue
         kept = models.text_of(os.path.join(folder, "stdout")).splitlines()

@@ -19,6 +19,7 @@ import diagrams
 import evaluations
 import plain_files
 import plain_models
+import tools
 from diagrams import DIAGRAM, Edge, View
 from program import LONG, MADE, loaded
 
@@ -61,6 +62,7 @@ class Viewpoint:
         self.numbers = {mapping["name"]: number for number, mapping in enumerate(self.mappings)}
         self.layers = {layer["name"] for layer in self.diagram["layers"][1:]}
         self.filters = {one["name"] for one in self.diagram.get("filters", [])}
+        self.tools = {one["name"]: one for one in self.diagram.get("tools", [])}
 
     def drawn(self, state):
         """The diagram of a state, or none where it is too large."""
@@ -129,14 +131,23 @@ def is_unknown_feature(v, s, d, c):
 
 
 def is_unknown_tool(v, s, d, c):
-    """Tools are not built yet, so none has a name. When they are, `bad_arguments` comes behind this, and the keys of the arguments
-    join those of `wanted_key`."""
-    return c["command"] == "tool"
+    return c["command"] == "tool" and c["tool"] not in v.tools
 
 
-def wanted_key(c):
-    """The key that a command names, if any, and whether it has to be that of an element alone."""
-    return (c.get("parent"), True) if c["command"] == "show" else (c.get("key"), False)
+def has_bad_arguments(v, s, d, c):
+    """Exactly those of the kind; the end of an edge goes to an element, and a text is one that a model may hold."""
+    if c["command"] != "tool":
+        return False
+    kind, arguments = v.tools[c["tool"]]["kind"], c["arguments"]
+    return set(arguments) != tools.ARGUMENTS[kind] or len(arguments.get("arg0", "").encode()) > plain_models.MOST_BYTES or kind == "reconnect" and arguments["to"] is None
+
+
+def wanted_keys(v, c):
+    """The keys that a command names, and whether each has to be that of a node, of an edge, or of either."""
+    if c["command"] == "tool":
+        return tools.wanted_keys(v.tools[c["tool"]], c["arguments"])
+    name, sort = ("parent", "node") if c["command"] == "show" else ("key", "either")
+    return [(c[name], sort)] if c.get(name) is not None else []
 
 
 def is_declared(d, key):
@@ -144,11 +155,8 @@ def is_declared(d, key):
 
 
 def is_unknown_element(v, s, d, c):
-    text, is_node_wanted = wanted_key(c)
-    if text is None:
-        return False
-    key = key_in(text)
-    return not is_declared(d, key) or is_node_wanted and isinstance(key, Edge)
+    keys = [(key_in(text), sort) for text, sort in wanted_keys(v, c)]
+    return any(not is_declared(d, key) or sort == ("node" if isinstance(key, Edge) else "edge") for key, sort in keys)
 
 
 def is_not_placeable(v, s, d, c):
@@ -181,6 +189,7 @@ REFUSALS = [
     ("unknown_class", is_unknown_class),
     ("unknown_feature", is_unknown_feature),
     ("unknown_tool", is_unknown_tool),
+    ("bad_arguments", has_bad_arguments),
     ("unknown_element", is_unknown_element),
     ("unknown_layer", lambda v, s, d, c: c["command"] == "layer" and c["layer"] not in v.layers),
     ("unknown_filter", lambda v, s, d, c: c["command"] == "filter" and c["filter"] not in v.filters),
@@ -231,6 +240,15 @@ def edited(v, s, c):
     return model, int(number) if number else None
 
 
+def after_tool(v, s, c):
+    """The model after a tool."""
+    ends_of = lambda key: {end: getattr(key_in(key), end)[-1][1] for end in ("source", "target")}
+    parent_of = lambda key: diagrams.written(path_in(key)[:-1]) if len(path_in(key)) > 1 else None
+    tool = v.tools[c["tool"]]
+    env, first = tools.variables(tool, c["arguments"], s.root, lambda key: diagrams.pair_of(key_in(key))[1], ends_of, parent_of)
+    return tools.run(v.named, s.model(), tool, env, env[first].number)
+
+
 def grid(v, d):
     """The positions that `arrange` gives: children that can be placed are counted for each parent, in declared order."""
     counts, found = {}, {}
@@ -273,6 +291,9 @@ def tried(v, s, d, c):
     if c["command"] in ("create", "set", "add", "take", "unset", "move_to", "remove"):
         model, created = edited(v, s, c)
         return stepped._replace(body=s.body._replace(model=model), next=model.next), created
+    if c["command"] == "tool":
+        model = after_tool(v, s, c)
+        return stepped._replace(body=s.body._replace(model=model), next=model.next), None
     return stepped._replace(body=changed(v, s, d, c)), None
 
 
@@ -325,6 +346,8 @@ class Session:
         except Refused as refused:
             code = refused.args[0]
             return (409, {"refusal": code, "revision": self.state.revision}) if code == "stale" else (422, {"refusal": code})
+        except tools.ToolRefused as refused:
+            return 422, refused.body
         return 200, {**({} if created is None else {"created": created}), "revision": self.state.revision}
 
     def texts(self):

@@ -112,18 +112,36 @@ class Walk:
     def switch(self, name, names):
         return {"command": name, name: self.one_of(names), "active": self.often(0.6)}
 
+    # ---- tools
+
+    def an_element(self, null=False):
+        return None if null and self.often(0.4) else self.a_key(self.session.diagram.elements if self.often(0.97) else None)
+
+    def tool(self):
+        """A tool of the viewpoint, mostly with the arguments of its kind."""
+        of_kind = {
+            "node_creation": lambda: {"container": self.an_element(True)}, "edge_creation": lambda: {"source": self.an_element(), "target": self.an_element()},
+            "delete": lambda: {"element": self.a_key()}, "direct_edit": lambda: {"element": self.a_key(), "arg0": self.chance.choice(TEXTS)},
+            "reconnect": lambda: {"element": self.a_key(self.session.diagram.edges if self.often(0.95) else None), "end": self.chance.choice(["source", "target"]), "to": self.an_element()},
+            "drop": lambda: {"element": self.an_element(), "to": self.an_element(True)},
+        }
+        tools = self.viewpoint.diagram["tools"]
+        tool, other = self.chance.choice(tools), self.chance.choice(tools)
+        arguments = of_kind[(tool if self.often(0.94) else other)["kind"]]()
+        return {"command": "tool", "tool": tool["name"] if self.often(0.98) else "Nothing", "arguments": arguments}
+
     # ---- commands
 
     def by_chance(self):
         makers = {
             "edit": self.edit, "show": self.show, "unshow": self.unshow, "hide": self.hide, "reveal": self.reveal, "move": self.move,
             "arrange": lambda: {"command": "arrange"}, "layer": lambda: self.switch("layer", self.viewpoint.layers),
-            "filter": lambda: self.switch("filter", self.viewpoint.filters), "tool": lambda: {"command": "tool", "tool": "Lend", "arguments": {}},
+            "filter": lambda: self.switch("filter", self.viewpoint.filters), "tool": self.tool,
             "undo": lambda: {"command": "undo"}, "redo": lambda: {"command": "redo"},
         }
         if self.last in ("undo", "redo") and self.often(0.6):
             return {"command": "redo" if self.session.state.future and (self.last == "redo" or self.often(0.3)) else "undo"}
-        name = self.chance.choices(list(makers), [44, 12, 2, 3, 5, 9, 2, 4, 4, 0.7, 7, 3])[0]
+        name = self.chance.choices(list(makers), [44, 12, 2, 3, 5, 9, 2, 4, 4, 12, 7, 3])[0]
         return makers[name]()
 
     def spoiled(self, c):

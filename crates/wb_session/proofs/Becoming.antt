@@ -1,9 +1,8 @@
 -- A state that was tried becomes the session's.
-use Rattle.std.proofs.Common.{◌≡◌, ◌≤◌, ◌<◌, ◌+◌, ℕ, Bool, true, false, not, nat_eq, nat_le, cond, if◌then◌else◌, List, map, Option, Some, None, Result, Ok, Err, refl, sym, ap, subst, ◌∙◌, arith}
+use Rattle.std.proofs.Common.{◌≡◌, ◌≤◌, ◌<◌, ◌+◌, ℕ, Bool, true, false, not, nat_eq, nat_le, cond, map, Result, Ok, Err, refl, sym, ap, subst, ◌∙◌, arith}
 use Rattle.std.specs.Prelude.{⊤}
-use Rattle.circular_buffer.specs.Buffer.{last_item}
 use Rattle.wb_history.specs.Stacks.{Stacks}
-use Rattle.wb_store.specs.Contents.{Contents, with_next}
+use Rattle.wb_store.specs.Contents.{Contents}
 use Rattle.wb_spec_check.specs.Checked.{Specification}
 use Rattle.wb_refresh.specs.Openings.{IsOpened, Kept}
 use Rattle.wb_refresh.specs.Outcomes.{Gives}
@@ -15,19 +14,14 @@ use Rattle.wb_session.specs.declared.entries.TriedState.{TriedState}
 use Rattle.wb_session.specs.declared.refusal.Refusal.{Refusal}
 use Rattle.wb_session.specs.declared.refusal.Refusal.TheVariants as r
 use Rattle.wb_session.specs.declared.turn.Turn.{Turn}
-use Rattle.wb_session.specs.declared.turn.Turn.TheVariants as turns
-use Rattle.wb_session.specs.States.{Body, IsGood, IsGoodBody, State, body, subject_at}
+use Rattle.wb_session.specs.States.{IsGood, IsGoodBody, State, body, subject_at}
+use Rattle.wb_session.specs.Planning.{state_after}
 use Rattle.wb_session.specs.Steps.{accepted, current, future_after, past_after, settled_body}
-use Rattle.wb_session.specs.Tries.{restored, tried}
 use Rattle.wb_session.specs.invariants.Keeping.{CanTurn, IsKept, body_of, state_of, tried_of, turned}
 use Rattle.wb_session.proofs.Goods.{good_after}
 use Rattle.wb_session.proofs.Histories.{capacity_stays, future_goes_on, future_older, past_goes_on, past_older}
 
 -- ---- the new memory
-
--- the state after this one, with this model and these marks
-abbrev pub state_after : State → Contents → Marks → Turn → State
-state_after s n left turn = record { spec = s.spec; root = s.root; next = n.next; body = body n left; revision = s.revision + 1; past = past_after turn s; future = future_after turn s }
 
 module _ (s : State) (spec : Specification) (root : ℕ) (m : Contents) (marks : Marks) (revision : ℕ) (h : Stacks Entry) (is : state_of spec root m marks revision h ≡ s)
     (n : Contents) (left : Marks) (turn : Turn) (full : h.capacity ≡ 100) where
@@ -67,8 +61,8 @@ can_rise s revision e = rises_by (nat_eq revision s.revision) (nat_le 9007199254
 
 -- ---- the whole
 
-pub accepts : (gives : Gives) (s : State) (a : TriedState) (left : Marks) (new : State)
-    → body a.model left ≡ settled_body gives (subject_at s.spec s.root a.model.next (tried_of a).body) (tried_of a).body → new ≡ state_after s a.model left a.turn → accepted gives s (tried_of a) ≡ new
+pub accepts : (gives : Gives) (s : State) (a : TriedState) (left : Marks)
+    → body a.model left ≡ settled_body gives (subject_at s.spec s.root a.model.next (tried_of a).body) (tried_of a).body → accepted gives s (tried_of a) ≡ state_after s a.model left a.turn
 unfolding accepted
-accepts gives s a left new e f =
-    ap (λ b. let x : State = record { spec = s.spec; root = s.root; next = a.model.next; body = b; revision = s.revision + 1; past = past_after a.turn s; future = future_after a.turn s } in x) (sym e) ∙ sym f
+accepts gives s a left e =
+    ap (λ b. let x : State = record { spec = s.spec; root = s.root; next = a.model.next; body = b; revision = s.revision + 1; past = past_after a.turn s; future = future_after a.turn s } in x) (sym e)

@@ -1,8 +1,7 @@
 -- What an edit that is asked for makes.
-use Rattle.std.proofs.Common.{◌≡◌, ◌≤◌, ◌∙◌, ℕ, true, Option, Some, None, Result, Ok, Err, refl, sym, ap, subst}
+use Rattle.std.proofs.Common.{◌≡◌, ◌≤◌, ◌∙◌, ℕ, true, Option, Some, None, Result, Ok, Err, sym, ap}
 use Rattle.std.specs.Option.{option_map_or, option_transpose}
 use Rattle.wb_base.specs.Answering.{IsRefusal}
-use Rattle.wb_history.specs.Stacks.{Stacks}
 use Rattle.wb_diagram.specs.declared.commands.Action.{Action}
 use Rattle.wb_metamodel.specs.WellFormed.{WellFormed}
 use Rattle.wb_store.specs.Contents.{Contents}
@@ -17,12 +16,11 @@ use Rattle.wb_spec_check.specs.Checked.{IsCheckedBy}
 use Rattle.wb_command_edits.specs.NamedEdits.{edit_named}
 use Rattle.wb_command_edits.specs.declared.refusal.NameRefusal.{NameRefusal}
 use Rattle.wb_session.specs.declared.entries.TriedState.{TriedState}
-use Rattle.wb_session.specs.declared.refusal.Refusal.{Refusal}
 use Rattle.wb_session.specs.declared.turn.Turn.TheVariants as turns
-use Rattle.wb_session.specs.Answering.{Gives, named, of_edit}
+use Rattle.wb_session.specs.Answering.{named, of_edit}
 use Rattle.wb_session.specs.States.{AreLawful, State, model_of}
-use Rattle.wb_session.specs.Tries.{Tried, after_edit, asked_edit, by_name, edited, marked}
-use Rattle.wb_session.specs.invariants.Keeping.{CanTurn, GoesOn, tried_of}
+use Rattle.wb_session.specs.Tries.{after_edit, asked_edit, by_name, edited, marked}
+use Rattle.wb_session.specs.invariants.Keeping.{GoesOn, tried_of}
 use Rattle.wb_session.proofs.Rooted.{conforms_still}
 
 -- ---- an edit that is asked for

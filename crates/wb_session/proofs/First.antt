@@ -1,10 +1,10 @@
 -- A session that was opened.
-use Rattle.std.proofs.Common.{◌≡◌, ◌≤◌, ◌+◌, ◌∙◌, ℕ, zero, suc, Bool, true, false, cond, nat_eq, List, [], ◌∷◌, map, filter, Option, Some, None, Result, Ok, Err, refl, sym, ap, subst, arith}
+use Rattle.std.proofs.Common.{◌≡◌, ◌≤◌, ◌+◌, ◌∙◌, ℕ, suc, Bool, true, false, cond, nat_eq, List, [], ◌∷◌, map, filter, Option, Some, Result, Ok, Err, refl, sym, ap, subst, arith}
 use Rattle.std.specs.Prelude.{find}
 use Rattle.std.specs.FinMap.{empty, get, get-empty}
 use Rattle.std.specs.List.{AllByRecursion, IsDistinct, enumerate_from}
 use Rattle.std.proofs.lemmas.Bool.{false≢true}
-use Rattle.wb_history.specs.Stacks.{Stacks, unbegun}
+use Rattle.wb_history.specs.Stacks.{unbegun}
 use Rattle.wb_diagram.specs.declared.keys.Key.{Key}
 use Rattle.wb_layout.specs.Orders.{key_cmp}
 use Rattle.wb_layout.specs.Positions.{IsInRange, Position, Positions}
@@ -12,17 +12,15 @@ use Rattle.wb_spec_check.specs.Checked.{IsCheckedBy, Specification}
 use Rattle.wb_store.specs.Contents.{Contents}
 use Rattle.wb_validity.specs.Valid.{IsValid, conforms_to}
 use Rattle.wb_viewpoint.specs.declared.layers.Layer.{Layer}
-use Rattle.wb_picture.specs.Opening.{is_opened, opened, opening_layers}
+use Rattle.wb_picture.specs.Opening.{is_opened, opening_layers}
 use Rattle.wb_refresh.specs.Openings.{IsOpened, Kept, is_too_large}
 use Rattle.wb_refresh.specs.Outcomes.{Gives}
 use Rattle.wb_refresh.specs.Subjects.{subject}
 use Rattle.wb_marks.specs.Marks.{unmarked}
-use Rattle.wb_marks.specs.declared.marks.Marks.{Marks}
 use Rattle.wb_marks.proofs.Apart.{unmarked_apart}
-use Rattle.wb_session.specs.declared.entries.Entry.{Entry}
 use Rattle.wb_session.specs.declared.opening.OpenRefusal.{OpenRefusal}
-use Rattle.wb_session.specs.declared.opening.OpenRefusal.TheVariants.{NoRoot, TooLarge}
-use Rattle.wb_session.specs.Opening.{opened_from, opened_state, root_element}
+use Rattle.wb_session.specs.declared.opening.OpenRefusal.TheVariants.{TooLarge}
+use Rattle.wb_session.specs.Opening.{opened_from, opened_state}
 use Rattle.wb_session.specs.States.{State}
 use Rattle.wb_session.specs.invariants.Keeping.{IsKept}
 use Rattle.std.specs.Prelude.{IfSome, IsSome}

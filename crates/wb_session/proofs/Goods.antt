@@ -1,5 +1,5 @@
 -- Good bodies and good states.
-use Rattle.std.proofs.Common.{◌≡◌, ◌≤◌, ◌<◌, ◌^◌, ◌-◌, ◌+◌, ◌&&◌, ◌||◌, ltb, nat_lt, ℕ, suc, Bool, true, false, not, cond, List, [], ◌∷◌, ◌++◌, length, take, drop, filter, Option, Some, None, Result, Ok, Err, refl, sym, ap, subst, ◌∙◌, arith}
+use Rattle.std.proofs.Common.{◌≡◌, ◌≤◌, ◌<◌, ◌^◌, ◌-◌, ◌+◌, ◌&&◌, ◌||◌, ltb, nat_lt, ℕ, suc, Bool, true, false, not, cond, List, [], ◌∷◌, ◌++◌, length, filter, Option, None, Result, Ok, Err, refl, subst, ◌∙◌, arith}
 use Rattle.std.specs.Prelude.{IsSome, IfSome, ⊤}
 use Rattle.std.specs.FinMap as positions
 use Rattle.std.specs.List.{AllByRecursion}
@@ -18,7 +18,7 @@ use Rattle.wb_spec_check.specs.Checked.{IsCheckedBy, Specification}
 use Rattle.wb_spec_check.specs.Units.{mapping_of_key}
 use Rattle.wb_answers.specs.SameKeys.{among}
 use Rattle.wb_layout.specs.Orders.{is_key}
-use Rattle.wb_layout.specs.Positions.{IsInRange, Position}
+use Rattle.wb_layout.specs.Positions.{IsInRange}
 use Rattle.wb_layout.proofs.Kept.{get-restricted}
 use Rattle.wb_refresh.specs.Openings.{all_rows, is_too_large}
 use Rattle.wb_refresh.specs.Weights.{is_over}

@@ -1,17 +1,16 @@
 -- How the history goes on.
-use Rattle.std.proofs.Common.{◌≡◌, ◌≤◌, ◌<◌, ◌-◌, ◌+◌, ℕ, zero, suc, Bool, true, false, List, [], ◌∷◌, ◌++◌, length, take, drop, map, Option, Some, None, refl, sym, ap, subst, ◌∙◌, arith}
-use Rattle.std.specs.List.{AllByRecursion}
+use Rattle.std.proofs.Common.{◌≡◌, ◌≤◌, ◌<◌, ◌-◌, ℕ, zero, suc, List, [], ◌∷◌, ◌++◌, length, take, drop, map, Some, None, refl, sym, ap, subst, ◌∙◌, arith}
 use Rattle.std.specs.Prelude.{slice_get}
-use Rattle.std.proofs.lemmas.List.{drop-map, take-map, map-append, length-map, length-take, length-drop, length-append}
+use Rattle.std.proofs.lemmas.List.{drop-map, take-map, map-append, length-map}
 use Rattle.circular_buffer.specs.Buffer.{keep_last, last_item}
-use Rattle.wb_history.specs.Stacks.{Stacks, stacks, all_but_newest}
+use Rattle.wb_history.specs.Stacks.{Stacks, all_but_newest}
 use Rattle.wb_store.specs.Contents.{Contents}
 use Rattle.wb_spec_check.specs.Checked.{Specification}
 use Rattle.wb_marks.specs.declared.marks.Marks.{Marks}
 use Rattle.wb_session.specs.declared.entries.Entry.{Entry}
 use Rattle.wb_session.specs.declared.turn.Turn.{Turn}
 use Rattle.wb_session.specs.declared.turn.Turn.TheVariants as turns
-use Rattle.wb_session.specs.States.{Body, State, body}
+use Rattle.wb_session.specs.States.{body}
 use Rattle.wb_session.specs.Steps.{past_after, future_after}
 use Rattle.wb_session.specs.invariants.Keeping.{body_of, state_of, turned, CanTurn, IsPossible, AreOlder}
 use Rattle.wb_session.proofs.Lists.{all_append, all_take, all_drop, all_mapped}

@@ -1,5 +1,5 @@
 -- Lawful marks stay lawful.
-use Rattle.std.proofs.Common.{◌≡◌, ◌||◌, ℕ, Bool, true, false, cond, List, [], ◌∷◌, ◌++◌, filter, Option, Some, None, refl, sym, ap, subst, ◌∙◌, option_map}
+use Rattle.std.proofs.Common.{◌≡◌, ◌||◌, ℕ, Bool, true, false, cond, List, [], ◌∷◌, ◌++◌, Option, Some, refl, sym, ap, subst, ◌∙◌, option_map}
 use Rattle.std.specs.Prelude.{IsSome, not}
 use Rattle.std.specs.FinMap.{get, get-insert}
 use Rattle.std.specs.List.{AllByRecursion, list_any}
@@ -18,8 +18,7 @@ use Rattle.wb_layout.specs.Orders.{is_key, key_cmp, same_key}
 use Rattle.wb_layout.specs.Positions.{Position}
 use Rattle.wb_layout.proofs.Each.{others_stay}
 use Rattle.wb_layout.proofs.KeyOrder.{key_cmp-IsAntisymmetric, key_cmp_total}
-use Rattle.wb_marks.specs.Marks.{AreDistinct, arranged, hidden_too, placed, revealed, shown_too, unmarked, unshown, with_filter, with_layer}
-use Rattle.wb_marks.specs.Ones.{with_one}
+use Rattle.wb_marks.specs.Marks.{arranged, hidden_too, placed, revealed, shown_too, unshown, with_filter, with_layer}
 use Rattle.wb_marks.specs.declared.marks.Marks.{Marks}
 use Rattle.wb_marks.proofs.Apart.{arranged_apart, filter_apart, hidden_apart, layer_apart, placed_apart, revealed_apart, shown_apart, unshown_apart}
 use Rattle.wb_targets.specs.Targets.{is_placeable, is_unsynchronised, placeable}

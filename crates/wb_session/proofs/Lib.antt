@@ -12,4 +12,5 @@ pub mod Settling
 pub mod Showable
 pub mod Stepping
 pub mod Taking
+pub mod Tooled
 pub mod Undoing

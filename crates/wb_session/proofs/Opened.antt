@@ -1,7 +1,5 @@
 -- A diagram that was opened is that of the settled marks too.
-use Rattle.std.proofs.Common.{◌≡◌, ◌∙◌, ℕ, Bool, List, length, map, Option, Some, None, if◌then◌else◌, refl, sym, ap, subst}
-use Rattle.wb_diagram.specs.declared.keys.AnyKey.{AnyKey}
-use Rattle.wb_diagram.specs.declared.keys.EdgeKey.{EdgeKey}
+use Rattle.std.proofs.Common.{◌≡◌, ◌∙◌, List, length, map, Some, None, if◌then◌else◌, sym, ap}
 use Rattle.wb_diagram.specs.declared.keys.Key.{Key}
 use Rattle.wb_diagram.specs.declared.units.Unit.{Unit as Place}
 use Rattle.wb_looks.specs.Filters.{filtered}

@@ -1,5 +1,5 @@
 -- What an undo or a redo tries.
-use Rattle.std.proofs.Common.{◌≡◌, ◌≤◌, ◌<◌, ◌-◌, ◌∙◌, ℕ, zero, suc, true, List, [], ◌∷◌, length, map, Option, Some, None, Result, Ok, Err, refl, sym, ap, subst, arith}
+use Rattle.std.proofs.Common.{◌≡◌, ◌<◌, ◌-◌, ℕ, zero, suc, List, [], ◌∷◌, length, map, Some, None, Ok, Err, ap, subst, arith}
 use Rattle.std.specs.Prelude.{slice_get}
 use Rattle.std.specs.List.{AllByRecursion}
 use Rattle.circular_buffer.specs.Buffer.{last_item}
@@ -15,8 +15,8 @@ use Rattle.wb_session.specs.declared.refusal.Refusal.{Refusal}
 use Rattle.wb_session.specs.declared.refusal.Refusal.TheVariants as r
 use Rattle.wb_session.specs.declared.turn.Turn.{Turn}
 use Rattle.wb_session.specs.declared.turn.Turn.TheVariants as turns
-use Rattle.wb_session.specs.States.{Body, IsGood, IsGoodBody, State}
-use Rattle.wb_session.specs.Tries.{Tried, restored, tried}
+use Rattle.wb_session.specs.States.{IsGood, IsGoodBody, State}
+use Rattle.wb_session.specs.Tries.{restored, tried}
 use Rattle.wb_session.specs.invariants.Keeping.{CanTurn, GoesOn, body_of, state_of, tried_of}
 use Rattle.wb_session.proofs.Histories.{last_mapped, none_mapped}
 

@@ -1,7 +1,5 @@
 -- Marks that are settled, and lawful ones.
-use Rattle.std.proofs.Common.{◌≡◌, ◌∙◌, ℕ, Bool, true, false, cond, List, filter, Option, Some, None, refl, sym, ap, subst}
-use Rattle.std.specs.Prelude.{IsSome, IfSome}
-use Rattle.std.specs.FinMap as positions
+use Rattle.std.proofs.Common.{◌≡◌, ℕ, List, sym, subst}
 use Rattle.wb_diagram.specs.declared.keys.EdgeKey.{EdgeKey}
 use Rattle.wb_diagram.specs.declared.keys.Key.{Key}
 use Rattle.wb_spec_check.specs.Checked.{Specification}
@@ -12,7 +10,7 @@ use Rattle.wb_declared.specs.Marks.{settled as settled_marks}
 use Rattle.wb_marks.specs.Marks.{AreOf, settled}
 use Rattle.wb_marks.specs.declared.marks.Marks.{Marks}
 use Rattle.wb_marks.proofs.Settled.{settled_of, settled_stay}
-use Rattle.wb_session.specs.States.{AreLawful, AreSettled, Body, model_at, subject_at}
+use Rattle.wb_session.specs.States.{AreSettled, Body, model_at, subject_at}
 use Rattle.wb_session.specs.Steps.{settled_body}
 
 module _ (gives : Gives) where

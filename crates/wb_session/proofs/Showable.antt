@@ -1,9 +1,9 @@
 -- What is opened can be shown.
-use Rattle.std.proofs.Common.{◌≡◌, ◌∙◌, ◌≤◌, ◌<◌, ℕ, List, [], ◌∷◌, ◌++◌, length, map, option_map, true, Option, Some, None, sym, ap, subst}
+use Rattle.std.proofs.Common.{◌≡◌, ◌∙◌, ◌<◌, ℕ, List, [], ◌∷◌, ◌++◌, map, option_map, true, Option, Some, None, sym, ap, subst}
 use Rattle.std.specs.Prelude.{All, Contains}
 use Rattle.std.specs.List.{cons_option, flat_map}
 use Rattle.std.proofs.lemmas.List.{get_or-map, length-map}
-use Rattle.std.proofs.lemmas.List.Elements.{All-append, All-cons, All-head, All-map, All-nil, All-tail, All-weaker, Contains-append_left}
+use Rattle.std.proofs.lemmas.List.Elements.{All-append, All-cons, All-head, All-map, All-nil, All-tail, Contains-append_left}
 use Rattle.std.proofs.lemmas.Map.Views.{Contains-from_any}
 use Rattle.wb_diagram.specs.Keys.{IsPath, IsWritable, JoinsPaths}
 use Rattle.wb_diagram.specs.Units.{NamesPaths}
@@ -19,7 +19,7 @@ use Rattle.wb_answers.specs.Seen.{Told}
 use Rattle.wb_nodes.specs.Nodes.{Scene, nodes, node_units}
 use Rattle.wb_nodes.proofs.NodeLaws.{nodes_are_paths, nodes_have_mappings, node_units_name_paths, parents_are_nodes}
 use Rattle.wb_edges.specs.Edges.{scene_of as between}
-use Rattle.wb_edges.proofs.EdgeLaws.{EndsAmong, edges_end_among, edges_have_mappings, edges_join_paths, units_name_paths}
+use Rattle.wb_edges.proofs.EdgeLaws.{edges_end_among, edges_have_mappings, edges_join_paths, units_name_paths}
 use Rattle.wb_looks.specs.Filters.{filter_units}
 use Rattle.wb_looks.specs.Looks.{HasMapping, look_units}
 use Rattle.wb_looks.specs.Visible.{HasGround}

@@ -1,5 +1,5 @@
 -- What a command answers, after the answers of its steps.
-use Rattle.std.proofs.Common.{◌≡◌, ◌∙◌, ℕ, Option, Some, None, Result, Ok, Err, IsErrAnd, refl, sym, ap, subst}
+use Rattle.std.proofs.Common.{◌≡◌, ◌∙◌, Result, Ok, Err, IsErrAnd, refl, sym, ap, subst}
 use Rattle.std.specs.Prelude.{⊤}
 use Rattle.wb_base.specs.Answering.{IsRefusal}
 use Rattle.wb_base.specs.Results.{◌>>=◌}
@@ -9,7 +9,7 @@ use Rattle.wb_refresh.specs.Outcomes.{Gives as Outcomes}
 use Rattle.wb_session.specs.declared.accepted.Accepted.{Accepted}
 use Rattle.wb_session.specs.declared.refusal.Refusal.{Refusal}
 use Rattle.wb_session.specs.declared.refusal.Refusal.TheVariants as r
-use Rattle.wb_session.specs.Answering.{Answers, named}
+use Rattle.wb_session.specs.Answering.{Answers, Gives, named}
 use Rattle.wb_session.specs.States.{State}
 use Rattle.wb_session.specs.Steps.{Stepped, current, stands, step, stepped}
 use Rattle.wb_session.specs.Tries.{Tried, tried}
@@ -23,6 +23,7 @@ names_itself A r.UnknownObject = refl
 names_itself A r.UnknownClass = refl
 names_itself A r.UnknownFeature = refl
 names_itself A r.UnknownTool = refl
+names_itself A r.BadArguments = refl
 names_itself A r.UnknownElement = refl
 names_itself A r.UnknownLayer = refl
 names_itself A r.UnknownFilter = refl
@@ -32,6 +33,7 @@ names_itself A r.NotUnsynchronised = refl
 names_itself A r.NotCandidate = refl
 names_itself A r.NothingToUndo = refl
 names_itself A r.NothingToRedo = refl
+names_itself A (r.Tool refusal) = refl
 names_itself A (r.Edit refusal) = refl
 names_itself A r.RootRemoved = refl
 names_itself A r.DiagramTooLarge = refl
@@ -42,6 +44,10 @@ exactly {A} e given is = subst (IsRefusal (named e)) is (names_itself A e)
 pub answers_refusal : (given : Result Stepped Refusal) (result : Result Accepted Refusal) (e : Refusal) (s : State) → IsErrAnd result (λ other. other ≡ e) → IsRefusal (named e) given → Answers given result s s
 answers_refusal given (Ok x) e s is h = absurd is
 answers_refusal given (Err other) e s is h = (subst (λ (y : Refusal). IsRefusal (named y) given) (sym is) h, refl)
+
+pub gives_refusal : {A B : Type 0} (view : B → A) (given : Result A Refusal) (result : Result B Refusal) (e : Refusal) → IsErrAnd result (λ other. other ≡ e) → IsRefusal (named e) given → Gives view given result
+gives_refusal view given (Ok x) e is h = absurd is
+gives_refusal view given (Err other) e is h = subst (λ (y : Refusal). IsRefusal (named y) given) (sym is) h
 
 module _ (gives : Outcomes) (s : State) (command : Command) where
   abbrev last : Tried → Result Stepped Refusal

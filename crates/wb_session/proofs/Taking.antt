@@ -1,8 +1,7 @@
 -- A step that was taken, and which way it went.
-use Rattle.std.proofs.Common.{◌≡◌, ◌+◌, ◌<◌, ◌&&◌, ℕ, ℤ, Bool, true, false, not, nat_le, nat_eq, if◌then◌else◌, cond, List, Option, Some, None, Result, Ok, Err, refl, sym, ap, subst, ◌∙◌, arith}
+use Rattle.std.proofs.Common.{◌≡◌, ◌&&◌, ℕ, ℤ, Bool, true, false, not, if◌then◌else◌, List, Option, Some, None, Result, Ok, Err, refl, ap, subst}
 use Rattle.std.specs.Prelude.{⊤}
 use Rattle.std.specs.Option.{option_map_or}
-use Rattle.circular_buffer.specs.Buffer.{keep_last, last_item}
 use Rattle.wb_base.specs.Results.{◌>>=◌}
 use Rattle.wb_base.proofs.Steps.{then_ok, same_ok}
 use Rattle.wb_diagram.specs.declared.commands.Action.{Action}
@@ -24,14 +23,18 @@ use Rattle.wb_command_edits.specs.NamedEdits.{edit_named}
 use Rattle.wb_command_edits.specs.declared.refusal.NameRefusal.{NameRefusal}
 use Rattle.wb_marks.specs.Marks.{hidden_too, placed, revealed, shown_too, unshown}
 use Rattle.wb_targets.specs.Targets.{additional_layer_named, filter_named, is_placeable, is_unsynchronised, mapping_named}
+use Rattle.wb_tools.specs.Tools.{ran}
+use Rattle.wb_tools.specs.declared.refusals.ToolRefusal.{ToolRefusal}
+use Rattle.wb_arguments.specs.Arguments.{asked}
+use Rattle.wb_arguments.specs.declared.asking.AskedTool.{AskedTool}
+use Rattle.wb_arguments.specs.declared.refusal.ArgumentRefusal.{ArgumentRefusal}
 use Rattle.wb_session.specs.declared.refusal.Refusal.{Refusal}
 use Rattle.wb_session.specs.declared.refusal.Refusal.TheVariants as r
-use Rattle.wb_session.specs.declared.turn.Turn.{Turn}
 use Rattle.wb_session.specs.declared.turn.Turn.TheVariants as turns
 use Rattle.wb_session.specs.Laws.{IsForward}
 use Rattle.wb_session.specs.States.{State, is_declared, model_of, subject_of}
 use Rattle.wb_session.specs.Steps.{Stepped, accepted, current, stands, step, stepped}
-use Rattle.wb_session.specs.Tries.{Tried, after_edit, asked_edit, by_name, edited, filtered, is_near, known, layered, live, marked, moved, path_of, shown_by, shown_candidate, tried, unshown_any, would_be_declared}
+use Rattle.wb_session.specs.Tries.{Tried, after_edit, after_tool, asked_edit, by_arguments, by_name, filtered, ground, is_near, known, layered, live, marked, moved, path_of, shown_by, shown_candidate, tried, unshown_any, would_be_declared}
 
 -- ---- a step that was taken
 
@@ -105,7 +108,15 @@ filtered_forward : (s : State) (active : Bool) (n : Option ℕ) → GoesForward 
 filtered_forward s active (Some n) = refl
 filtered_forward s active None = tt
 
+after_tool_forward : (s : State) (answer : Result (Contents × ℕ) ToolRefusal) → GoesForward (after_tool s answer)
+after_tool_forward s (Ok (m, n)) = refl
+after_tool_forward s (Err refusal) = tt
+
 module _ (gives : Gives) where
+  asked_tool_forward : (s : State) (answer : Result AskedTool ArgumentRefusal) → GoesForward (by_arguments gives s answer)
+  asked_tool_forward s (Ok it) = after_tool_forward s (ran gives s.spec it.tool it.env it.context (model_of s))
+  asked_tool_forward s (Err refusal) = tt
+
   shown_forward : (s : State) (key : Key) → GoesForward (shown_candidate gives s key)
   shown_forward s key = either (would_be_declared gives s key) (marked s (shown_too key s.body.marks)) (Err r.NotCandidate) refl tt
 
@@ -132,7 +143,7 @@ module _ (gives : Gives) where
   forward s (Unset slot) f = asked_forward s (Unset slot)
   forward s (MoveTo o slot) f = asked_forward s (MoveTo o slot)
   forward s (Remove o) f = asked_forward s (Remove o)
-  forward s (Tool tool arguments) f = tt
+  forward s (Tool tool arguments) f = asked_tool_forward s (asked s.spec (ground gives s) tool arguments)
   forward s (Move key x y) f = known_forward s key (moved s key x y) (moved_forward s key x y)
   forward s Arrange f = refl
   forward s Undo f = absurd f

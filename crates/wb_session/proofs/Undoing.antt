@@ -1,5 +1,5 @@
 -- Undo and redo give what was.
-use Rattle.std.proofs.Common.{◌≡◌, ◌+◌, ℕ, Bool, true, List, [], ◌∷◌, ◌++◌, Option, Some, None, Result, Ok, Err, refl, sym, ap, subst, ◌∙◌}
+use Rattle.std.proofs.Common.{◌≡◌, ℕ, List, [], ◌∷◌, ◌++◌, Option, Some, None, Ok, refl, sym, ap, subst, ◌∙◌}
 use Rattle.circular_buffer.specs.Buffer.{keep_last, last_item}
 use Rattle.wb_base.proofs.Steps.{same_ok}
 use Rattle.wb_diagram.specs.declared.commands.Action.TheVariants.{Undo, Redo}

@@ -3,6 +3,8 @@ use Rattle.std.specs.Prelude.{◌≡◌, Option, Some, None, Result, Ok, Err}
 use Rattle.wb_base.specs.Answering.{IsRefusal}
 use Rattle.wb_model.specs.declared.refusals.ModelRefusal.{ModelRefusal}
 use Rattle.wb_model.specs.declared.refusals.ModelRefusal.TheVariants as m
+use Rattle.wb_tools.specs.declared.refusals.ToolRefusal.{ToolRefusal}
+use Rattle.wb_tools.specs.declared.refusals.ToolRefusal.TheVariants as t
 use Rattle.wb_session.specs.declared.accepted.Accepted.{Accepted}
 use Rattle.wb_session.specs.declared.refusal.Refusal.{Refusal}
 use Rattle.wb_session.specs.declared.refusal.Refusal.TheVariants as r
@@ -18,6 +20,7 @@ named r.UnknownObject = Some r.UnknownObject
 named r.UnknownClass = Some r.UnknownClass
 named r.UnknownFeature = Some r.UnknownFeature
 named r.UnknownTool = Some r.UnknownTool
+named r.BadArguments = Some r.BadArguments
 named r.UnknownElement = Some r.UnknownElement
 named r.UnknownLayer = Some r.UnknownLayer
 named r.UnknownFilter = Some r.UnknownFilter
@@ -27,6 +30,7 @@ named r.NotUnsynchronised = Some r.NotUnsynchronised
 named r.NotCandidate = Some r.NotCandidate
 named r.NothingToUndo = Some r.NothingToUndo
 named r.NothingToRedo = Some r.NothingToRedo
+named (r.Tool refusal) = Some (r.Tool refusal)
 named (r.Edit refusal) = Some (r.Edit refusal)
 named r.RootRemoved = Some r.RootRemoved
 named r.DiagramTooLarge = Some r.DiagramTooLarge
@@ -41,6 +45,15 @@ of_edit m.ContainmentCycle = r.Edit m.ContainmentCycle
 of_edit m.AbstractClass = r.Edit m.AbstractClass
 of_edit m.TooManyObjects = r.Edit m.TooManyObjects
 of_edit m.IdsSpent = r.Edit m.IdsSpent
+
+-- a tool's refusal, as that of a command
+abbrev pub of_tool : ToolRefusal → Refusal
+of_tool t.NoMemory = r.NoMemory
+of_tool t.PreconditionFalse = r.Tool t.PreconditionFalse
+of_tool (t.Evaluation place fault) = r.Tool (t.Evaluation place fault)
+of_tool (t.BadContext place) = r.Tool (t.BadContext place)
+of_tool (t.Model place refusal) = r.Tool (t.Model place refusal)
+of_tool t.ToolTooLong = r.Tool t.ToolTooLong
 
 -- a step on the way gives what its definition gives, as it is seen; want of memory says nothing of it
 abbrev pub Gives : {A B : Type 0} → (B → A) → Result A Refusal → Result B Refusal → Type 0

@@ -2,6 +2,7 @@ pub mod Answering
 pub mod Laws
 pub mod Opening
 pub mod Pictures
+pub mod Planning
 pub mod RefusalTexts
 pub mod States
 pub mod Steps

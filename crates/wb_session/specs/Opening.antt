@@ -1,5 +1,5 @@
 -- A session as it is opened: nothing is marked or placed, no filter is active, and of the layers beside the first those are that the viewpoint declares active.
-use Rattle.std.specs.Prelude.{◌≡◌, ℕ, List, [], find, Option, Some, None, Result, Ok, Err, if◌then◌else◌}
+use Rattle.std.specs.Prelude.{◌≡◌, ℕ, [], find, Option, Some, None, Result, Ok, Err, if◌then◌else◌}
 use Rattle.wb_base.specs.Answering.{IsRefusal}
 use Rattle.wb_store.specs.Contents.{Contents}
 use Rattle.wb_validity.specs.Valid.{conforms_to}

@@ -1,11 +1,12 @@
 -- The state that a command tries, or why it is refused before one is tried.
-use Rattle.std.specs.Prelude.{ℕ, ℤ, Bool, false, not, ◌&&◌, nat_abs, nat_le, nat_eq, List, [], ◌∷◌, ◌++◌, Option, Some, None, Result, Ok, Err, if◌then◌else◌}
+use Rattle.std.specs.Prelude.{ℕ, ℤ, Bool, false, not, ◌&&◌, nat_abs, nat_le, List, [], ◌∷◌, ◌++◌, Option, Some, None, Result, Ok, Err, if◌then◌else◌}
 use Rattle.std.specs.Option.{option_map_or}
 use Rattle.circular_buffer.specs.Buffer.{last_item}
 use Rattle.wb_base.specs.Results.{◌>>=◌}
 use Rattle.wb_store.specs.Contents.{Contents}
 use Rattle.wb_diagram.specs.declared.commands.Action.{Action}
 use Rattle.wb_diagram.specs.declared.commands.Action.TheVariants.{Create, Set, Add, Take, Unset, MoveTo, Remove, Tool, Move, Arrange, Undo, Redo, Show, Unshow, Hide, Reveal, Layer, Filter}
+use Rattle.wb_diagram.specs.declared.commands.Arguments.{Arguments}
 use Rattle.wb_diagram.specs.declared.keys.AnyKey.{AnyKey}
 use Rattle.wb_diagram.specs.declared.keys.AnyKey.TheVariants.{Node, Edge}
 use Rattle.wb_diagram.specs.declared.keys.Key.{Key}
@@ -18,14 +19,20 @@ use Rattle.wb_model.specs.Edits.{is_live}
 use Rattle.wb_model.specs.GivenEdits.{edit_of, number_made}
 use Rattle.wb_nodes.specs.Nodes.{child}
 use Rattle.wb_refresh.specs.Outcomes.{Gives}
-use Rattle.wb_refresh.specs.Subjects.{Subject, subject}
+use Rattle.wb_refresh.specs.Subjects.{subject}
 use Rattle.wb_command_edits.specs.NamedEdits.{edit_named}
 use Rattle.wb_command_edits.specs.declared.refusal.NameRefusal.{NameRefusal}
 use Rattle.wb_command_edits.specs.declared.refusal.NameRefusal.TheVariants as name
-use Rattle.wb_declared.specs.Declarations.{declared_nodes}
+use Rattle.wb_declared.specs.Declarations.{declared_edges, declared_nodes}
 use Rattle.wb_marks.specs.Marks.{arranged, hidden_too, placed, revealed, shown_too, unshown, with_filter, with_layer}
 use Rattle.wb_marks.specs.declared.marks.Marks.{Marks}
 use Rattle.wb_targets.specs.Targets.{additional_layer_named, filter_named, is_placeable, is_unsynchronised, mapping_named, placeable}
+use Rattle.wb_tools.specs.Tools.{ran}
+use Rattle.wb_tools.specs.declared.refusals.ToolRefusal.{ToolRefusal}
+use Rattle.wb_arguments.specs.Arguments.{Ground, asked}
+use Rattle.wb_arguments.specs.declared.asking.AskedTool.{AskedTool}
+use Rattle.wb_arguments.specs.declared.refusal.ArgumentRefusal.{ArgumentRefusal}
+use Rattle.wb_arguments.specs.declared.refusal.ArgumentRefusal.TheVariants as arguments
 use Rattle.wb_session.specs.declared.refusal.Refusal.{Refusal}
 use Rattle.wb_session.specs.declared.refusal.Refusal.TheVariants as r
 use Rattle.wb_session.specs.declared.turn.Turn.{Turn}
@@ -114,6 +121,19 @@ abbrev pub filtered : State → (active : Bool) → Option ℕ → Result Tried 
 filtered s active (Some n) = marked s (with_filter n active s.body.marks)
 filtered s active None = Err r.UnknownFilter
 
+-- ---- tools
+
+abbrev pub of_arguments : ArgumentRefusal → Refusal
+of_arguments arguments.UnknownTool = r.UnknownTool
+of_arguments arguments.BadArguments = r.BadArguments
+of_arguments arguments.UnknownElement = r.UnknownElement
+of_arguments arguments.NoMemory = r.NoMemory
+
+-- the model that a tool makes, with the marks as they are; the objects that it makes are not told
+abbrev pub after_tool : State → Result (Contents × ℕ) ToolRefusal → Result Tried Refusal
+after_tool s (Ok (m, evaluations)) = Ok (record { next = m.next; body = body m s.body.marks; created = None; turn = turn.Forward })
+after_tool s (Err refusal) = Err (r.Tool refusal)
+
 module _ (gives : Gives) where
   -- only on what is declared
   abbrev pub known : State → AnyKey → Result Tried Refusal → Result Tried Refusal
@@ -150,7 +170,23 @@ module _ (gives : Gives) where
   abbrev pub laid : State → Marks
   laid s = arranged (placeable s.spec (declared_nodes gives (subject_of s))) s.body.marks
 
-  -- what an action tries; no tool is run yet
+  -- what arguments of tools may name: what is declared, and the root element
+  abbrev pub ground : State → Ground
+  ground s = record { nodes = declared_nodes gives (subject_of s); edges = declared_edges gives (subject_of s); root = s.root }
+
+  -- a tool that is asked for is run on the model
+  abbrev pub run_asked : State → AskedTool → Result Tried Refusal
+  run_asked s it = after_tool s (ran gives s.spec it.tool it.env it.context (model_of s))
+
+  abbrev pub by_arguments : State → Result AskedTool ArgumentRefusal → Result Tried Refusal
+  by_arguments s (Ok it) = run_asked s it
+  by_arguments s (Err refusal) = Err (of_arguments refusal)
+
+  -- the tool of a name, with these arguments
+  abbrev pub used : State → List ℕ → Arguments → Result Tried Refusal
+  used s tool arguments = by_arguments s (asked s.spec (ground s) tool arguments)
+
+  -- what an action tries
   unfoldable pub tried : State → Action → Result Tried Refusal
   tried s (Create class slot) = asked_edit s (Create class slot)
   tried s (Set slot value) = asked_edit s (Set slot value)
@@ -159,7 +195,7 @@ module _ (gives : Gives) where
   tried s (Unset slot) = asked_edit s (Unset slot)
   tried s (MoveTo o slot) = asked_edit s (MoveTo o slot)
   tried s (Remove o) = asked_edit s (Remove o)
-  tried s (Tool tool arguments) = Err r.UnknownTool
+  tried s (Tool tool arguments) = used s tool arguments
   tried s (Move key x y) = known s key (moved s key x y)
   tried s Arrange = marked s (laid s)
   tried s Undo = restored s turn.Back r.NothingToUndo (last_item s.past)

@@ -1,18 +1,15 @@
-ghost use Rattle.std.specs.Prelude.{◌≡◌, ◌+◌, ◌<◌, ◌≤◌};
-ghost use Rattle.wb_refresh.specs.Openings.{IsOpened};
-ghost use Rattle.wb_refresh.specs.Subjects.{subject};
-ghost use Rattle.wb_session.specs.States.{IsGoodBody, body};
-ghost use Rattle.wb_session.specs.Steps.{future_after, past_after};
-ghost use Rattle.wb_session.specs.invariants.Keeping.{CanTurn, IsPossible, turned};
+ghost use Rattle.std.specs.Prelude.{◌≡◌};
+ghost use Rattle.wb_session.specs.Planning.{Follows, state_after};
+ghost use Rattle.wb_session.specs.invariants.Keeping.{IsPossible, turned};
 
+use crate::accepted::Accepted;
 use crate::entries::Entry;
+use crate::planning::Planned;
 use crate::session::Session;
-use crate::standing::Settled;
 use crate::turn::Turn;
 use std::mem::replace;
 use wb_aql_eval::Evaluator;
 use wb_history::History;
-use wb_model::Model;
 
 /// The history goes on with what stood before.
 fn go_on(history: &mut History<Entry>, entry: Entry, turn: Turn)
@@ -34,24 +31,20 @@ fn go_on(history: &mut History<Entry>, entry: Entry, turn: Turn)
 }
 
 impl<E: Evaluator> Session<E> {
-    /// A state that was tried is the session's. Nothing can fail here.
-    pub(crate) fn accept(&mut self, model: Model, turn: Turn, settled: Settled<E>)
-        requires good { IsGoodBody E.outcome_by self.old.spec self.old.root model.next (body model settled.marks) }
-        requires opened { IsOpened E.outcome_by (subject self.old.spec model self.old.root settled.marks.shown) settled.diagram }
-        requires later { self.old.next ≤ model.next }
-        requires revision { self.old.revision < 9007199254740991 }
-        requires possible { CanTurn turn self.old }
-        ensures { self.new ≡ record {
-          spec = self.old.spec;
-          root = self.old.root;
-          next = model.next;
-          body = body model settled.marks;
-          revision = self.old.revision + 1;
-          past = past_after turn self.old;
-          future = future_after turn self.old;
-        } }
+    /// What was planned is the session's state. Nothing can fail here.
+    pub fn accept(&mut self, planned: Planned<E>) -> Accepted
+        requires { Follows E.outcome_by self.old planned.model planned.marks planned.turn planned.diagram }
+        ensures state { self.new ≡ state_after self.old planned.model planned.marks planned.turn }
+        ensures revision { result.revision ≡ self.new.revision }
+        ensures created { result.created ≡ planned.created }
     {
-        let Settled { diagram, marks } = settled;
+        let Planned {
+            model,
+            marks,
+            created,
+            turn,
+            diagram,
+        } = planned;
         let entry = Entry {
             model: replace(&mut self.model, model),
             marks: replace(&mut self.marks, marks),
@@ -59,5 +52,9 @@ impl<E: Evaluator> Session<E> {
         go_on(&mut self.history, entry, turn);
         self.diagram = diagram;
         self.revision += 1;
+        Accepted {
+            revision: self.revision,
+            created,
+        }
     }
 }

@@ -57,8 +57,8 @@ impl<E: Evaluator> Session<E> {
     }
 }
 
-// The metamodel of a model is well formed.
-fn metamodel_is_sound(model: &Model)
+/// The metamodel of a model is well formed.
+pub(crate) fn metamodel_is_sound(model: &Model)
     ensures { WellFormed model.now.metamodel }
 {
     model.metamodel().well_formed();

@@ -1,10 +1,12 @@
 ghost use Rattle.std.specs.Prelude.{◌≡◌};
-ghost use Rattle.wb_session.specs.Tries.{of_name};
+ghost use Rattle.wb_session.specs.Tries.{of_arguments, of_name};
 ghost use Rattle.wb_session.specs.declared.refusal.Refusal.TheVariants.{NoMemory};
 
 use std::alloc::{AllocError, AllocFailed};
+use wb_arguments::ArgumentRefusal;
 use wb_command_edits::NameRefusal;
 use wb_model::ModelRefusal;
+use wb_tools::ToolRefusal;
 
 /// Why a command is refused; the first that holds, in this order.
 #[derive(Clone, Copy)]
@@ -19,6 +21,8 @@ pub enum Refusal {
     /// The class of the object has no feature of the name.
     UnknownFeature,
     UnknownTool,
+    /// The arguments are not exactly those of the tool's kind, or a text is too long.
+    BadArguments,
     /// A key is not declared, or is of the other sort.
     UnknownElement,
     /// No layer beside the first has the name.
@@ -34,6 +38,8 @@ pub enum Refusal {
     NotCandidate,
     NothingToUndo,
     NothingToRedo,
+    /// The tool's refusal, which is never want of memory.
+    Tool(ToolRefusal),
     /// The edit's refusal, which is never want of memory.
     Edit(ModelRefusal),
     RootRemoved,
@@ -66,6 +72,19 @@ impl From<NameRefusal> for Refusal {
             NameRefusal::UnknownClass => Refusal::UnknownClass,
             NameRefusal::UnknownFeature => Refusal::UnknownFeature,
             NameRefusal::NoMemory => Refusal::NoMemory,
+        }
+    }
+}
+
+impl From<ArgumentRefusal> for Refusal {
+    ghost from_gives = { λ a e. e ≡ of_arguments a };
+
+    fn from(refusal: ArgumentRefusal) -> Self {
+        match refusal {
+            ArgumentRefusal::UnknownTool => Refusal::UnknownTool,
+            ArgumentRefusal::BadArguments => Refusal::BadArguments,
+            ArgumentRefusal::UnknownElement => Refusal::UnknownElement,
+            ArgumentRefusal::NoMemory => Refusal::NoMemory,
         }
     }
 }

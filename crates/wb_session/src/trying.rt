@@ -32,7 +32,12 @@ impl<E: Evaluator> Session<E> {
 
     /// The state that an action tries. The session stays.
     #[tactic(auto, unfolding(crate::specs::Tries::tried))]
-    pub(crate) fn tried(&self, alloc: Global, action: &Action) -> Result<TriedState, Refusal>
+    pub(crate) fn tried(
+        &self,
+        alloc: Global,
+        action: &Action,
+        steps: &mut E,
+    ) -> Result<TriedState, Refusal>
         ensures given { Gives tried_of (tried E.outcome_by self.now action.now) result }
         ensures goes_on { IfOk result (GoesOn self.now) }
     {
@@ -44,7 +49,9 @@ impl<E: Evaluator> Session<E> {
             Action::Unset { .. } => self.try_edit(alloc, action),
             Action::MoveTo { .. } => self.try_edit(alloc, action),
             Action::Remove { .. } => self.try_edit(alloc, action),
-            Action::Tool { .. } => Err(Refusal::UnknownTool),
+            Action::Tool { tool, arguments } => {
+                self.try_tool(alloc, tool.as_str(), arguments, steps)
+            }
             Action::Move { key, x, y } => self.try_move(alloc, key, *x, *y),
             Action::Arrange => self.try_arrange(alloc),
             Action::Undo => self.try_undo(alloc),

@@ -1,4 +1,4 @@
-use Rattle.std.proofs.Common.{◌≡◌, refl, subst, List, ℕ}
+use Rattle.std.proofs.Common.{◌≡◌, refl, subst}
 use Rattle.std.specs.Prelude.{IfOk}
 use Rattle.wb_diagram.specs.declared.diagrams.Diagram.{Diagram}
 use Rattle.wb_session.specs.Pictures.{picture}

@@ -1,4 +1,4 @@
-use Rattle.std.proofs.Common.{◌≡◌, ◌∙◌, ap, sym, subst, Result, Ok, Err}
+use Rattle.std.proofs.Common.{◌≡◌, ◌∙◌, ap, sym, subst, Result, Ok}
 use Rattle.wb_base.specs.Answering.{IsRefusal}
 use Rattle.wb_spec_check.specs.Checked.{IsCheckedBy}
 use Rattle.wb_session.specs.declared.entries.TriedState.{TriedState}

@@ -1,9 +1,7 @@
-use Rattle.std.proofs.Common.{◌≡◌, ◌≤◌, true, List, length, sym, subst, ap, ◌∙◌}
-use Rattle.std.specs.Prelude.{IfOk}
+use Rattle.std.proofs.Common.{◌≡◌, ◌≤◌, true, List, length, sym, subst, ◌∙◌}
 use Rattle.std.specs.List.{AllByRecursion}
 use Rattle.std.proofs.lemmas.Result.{IfOk-weaker}
 use Rattle.wb_diagram.specs.declared.keys.Key.{Key}
-use Rattle.wb_spec_check.specs.Checked.{Specification}
 use Rattle.wb_declared.specs.Declarations.{declared_nodes}
 use Rattle.wb_marks.specs.Marks.{arranged}
 use Rattle.wb_marks.specs.declared.marks.Marks.{Marks}

@@ -1,4 +1,4 @@
-use Rattle.std.proofs.Common.{◌≡◌, ◌<◌, ◌∙◌, ℕ, true, length, Some, ap, sym, subst}
+use Rattle.std.proofs.Common.{◌≡◌, ◌<◌, true, length, sym, subst}
 use Rattle.wb_answers.proofs.CheckedParts.{domain_fits}
 use Rattle.wb_spec_check.specs.declared.parts.Parts.{Parts}
 use Rattle.wb_validity.specs.Valid.{conforms_to}

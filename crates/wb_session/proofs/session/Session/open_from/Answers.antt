@@ -1,4 +1,4 @@
-use Rattle.std.proofs.Common.{◌≡◌, sym, subst}
+use Rattle.std.proofs.Common.{sym, subst}
 use Rattle.wb_history.specs.Stacks.{Stacks}
 use Rattle.wb_picture.specs.Opening.{opening_layers}
 use Rattle.wb_marks.specs.Marks.{unmarked}

@@ -1,6 +1,5 @@
 use Rattle.std.proofs.Common.{◌≡◌, refl, subst, List, ℕ}
 use Rattle.std.specs.Prelude.{IfOk}
-use Rattle.wb_diagram.specs.declared.diagrams.Diagram.{Diagram}
 use Rattle.wb_session.specs.Pictures.{served}
 use Rattle.wb_session.specs.States.{State, subject_of}
 use Rattle.wb_session.specs.invariants.Keeping.{state_of}

@@ -1,4 +1,4 @@
-use Rattle.std.proofs.Common.{◌≡◌, sym, subst}
+use Rattle.std.proofs.Common.{sym, subst}
 use Rattle.wb_session.specs.States.{AreLawful, State}
 use Rattle.wb_session.proofs.Lawful.{revealed_lawful}
 use Rattle.wb_session.proofs.session.Session.try_reveal.Goals as goal

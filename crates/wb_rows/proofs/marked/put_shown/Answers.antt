@@ -1,0 +1,8 @@
+use Rattle.wb_rows.specs.Rows.{shown_row}
+use Rattle.wb_rows.proofs.Steps.{rows_more}
+use Rattle.wb_rows.proofs.marked.put_shown.Goals as goal
+
+pub loop-key-preserved : goal.loop-key-preserved
+loop-key-preserved c =
+    let more = rows_more shown_row c.args.keys.now c.loop-key.key-index c.key-item.result c.args.rows.now c.loop-key-test.true c.key-item.is in
+    cc (more, c.in_ok-put.ensures, c.in_ok-element_key.ensures, c.new.ensures.items, c.loop-key.invariant)

@@ -1,0 +1,7 @@
+use Rattle.std.proofs.Common.{◌≡◌, map, take}
+use Rattle.wb_rows.specs.Rows.{shown_row}
+use Rattle.wb_rows.specs.Texts.{with_rows}
+use Rattle.wb_rows.proofs.marked.put_shown.Given as goal
+
+abbrev pub invariant-loop-key : goal.invariant-loop-key
+invariant-loop-key l = l.rows ≡ with_rows (map shown_row (take l.key-index l.keys)) l.initial.rows

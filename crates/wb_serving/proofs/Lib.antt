@@ -1,0 +1,5 @@
+pub mod Replying
+pub mod Turning
+pub mod Going
+pub mod Running
+pub mod Counting

@@ -1,0 +1,10 @@
+pub mod Asked
+pub mod Checked
+pub mod FeatureLemmas
+pub mod KindVariables
+pub mod Ready
+pub mod Rows
+pub mod RunLemmas
+pub mod Sequences
+pub mod Variables
+pub mod Whole
