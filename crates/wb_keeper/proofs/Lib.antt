@@ -1,2 +1,4 @@
 pub mod Places
 pub mod RootTexts
+pub mod Sorts
+pub mod Shown
