@@ -2,3 +2,5 @@ pub mod Places
 pub mod RootTexts
 pub mod Sorts
 pub mod Shown
+pub mod Tally
+pub mod Alone

@@ -1,10 +1,10 @@
 -- Rows behind references.
-use Rattle.std.proofs.Common.{◌≡◌, ◌<◌, ◌≤◌, ◌+◌, ◌&&◌, ℕ, zero, suc, Bool, true, false, not, List, [], ◌∷◌, ◌++◌, length, get_or, map, filter, cond, refl, sym, ap, subst, ◌∙◌, Bor, arith}
+use Rattle.std.proofs.Common.{◌≡◌, ◌<◌, ◌+◌, ◌&&◌, ℕ, Bool, true, false, not, List, [], ◌∷◌, length, get_or, map, filter, cond, refl, sym, ap, subst, ◌∙◌, Bor, arith}
 use Rattle.std.proofs.lemmas.List.{get_or-map, length-map}
 use Rattle.std.proofs.lemmas.List.Sorted.{IsPermutation-map, ranks_by}
 use Rattle.std.specs.declared.cmp.Ordering.{Ordering}
 use Rattle.std.specs.declared.cmp.Ordering.TheVariants as c
-use Rattle.std.specs.Ordering.{is_lt, is_eq, eq_by_cmp, ordering_reverse}
+use Rattle.std.specs.Ordering.{is_lt, is_eq, ordering_reverse}
 use Rattle.std.specs.Cmp.{IsStrictWeakOrder}
 use Rattle.std.specs.Cmp.Lexicographic.{texts_ties}
 use Rattle.std.specs.List.Sorted.{IsPermutation, IsSortedBy, IsStableBy, ties}
@@ -13,7 +13,7 @@ use Rattle.wb_rows.specs.Texts.{key_cmp, row}
 use Rattle.wb_rows.proofs.Orders.{key_total}
 use Rattle.wb_keeper.specs.Phases.{is_head, same, texts_at}
 use Rattle.wb_keeper.specs.Arranged.{IsArranged, comes_first, others_of, shown_by}
-use Rattle.wb_keeper.proofs.Sorts.{is_same, not_both, not_true, same_is}
+use Rattle.wb_keeper.proofs.Sorts.{not_both, same_is}
 
 abbrev pub shown_first : Bor Row → Bor Row → Bool
 shown_first r other = is_lt (key_cmp r.now.key other.now.key)
@@ -51,7 +51,7 @@ texts_shown (r ∷ refs) x =
     ∙ by (same r.now.key x.now.key) (texts_shown refs x)
   where
     by : (b : Bool) → map (λ (q : Bor Row). q.now.text) (filter (ties shown_first x) refs) ≡ texts_at (shown_by refs) x.now.key
-      → map (λ (q : Bor Row). q.now.text) (cond b (r ∷ filter (ties shown_first x) refs) (filter (ties shown_first x) refs)) ≡ map (λ (q : Row). q.text) (cond b (r.now ∷ filter (λ (q : Row). same q.key x.now.key) (shown_by refs)) (filter (λ (q : Row). same q.key x.now.key) (shown_by refs)))
+        → map (λ (q : Bor Row). q.now.text) (cond b (r ∷ filter (ties shown_first x) refs) (filter (ties shown_first x) refs)) ≡ map (λ (q : Row). q.text) (cond b (r.now ∷ filter (λ (q : Row). same q.key x.now.key) (shown_by refs)) (filter (λ (q : Row). same q.key x.now.key) (shown_by refs)))
     by true rest = ap (λ ts. r.now.text ∷ ts) rest
     by false rest = rest
 
@@ -63,6 +63,7 @@ others_texts (r ∷ rows) key other = by (is_head r.key) (same r.key key) refl r
     both : (b : Bool) → texts_at (others_of rows) key ≡ texts_at rows key → map (λ (q : Row). q.text) (cond b (r ∷ filter (λ (q : Row). same q.key key) (others_of rows)) (filter (λ (q : Row). same q.key key) (others_of rows))) ≡ map (λ (q : Row). q.text) (cond b (r ∷ filter (λ (q : Row). same q.key key) rows) (filter (λ (q : Row). same q.key key) rows))
     both true rest = ap (λ ts. r.text ∷ ts) rest
     both false rest = rest
+
     by : (head : Bool) (here : Bool) → is_head r.key ≡ head → same r.key key ≡ here → texts_at (others_of rows) key ≡ texts_at rows key → texts_at (others_of (r ∷ rows)) key ≡ texts_at (r ∷ rows) key
     by true true h s rest = absurd (not_both (is_head key) (ap is_head (sym (same_is r.key key s)) ∙ h) other)
     by true false h s rest =

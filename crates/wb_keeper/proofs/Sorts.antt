@@ -1,5 +1,5 @@
 -- Rows by their keys, and in the order of their keys.
-use Rattle.std.proofs.Common.{◌≡◌, ◌≢◌, ◌<◌, ◌≤◌, ◌+◌, ◌-◌, ◌||◌, ℕ, zero, suc, Bool, true, false, not, T, true≢false, List, [], ◌∷◌, ◌++◌, length, get_or, take, drop, map, filter, cond, refl, sym, ap, subst, ◌∙◌, inl, inr, take-append-drop, get_or-take, get_or-drop, length-take-le, length-append, length-drop, add-one, arith}
+use Rattle.std.proofs.Common.{◌≡◌, ◌<◌, ◌≤◌, ◌+◌, ◌-◌, ◌||◌, ℕ, zero, suc, Bool, true, false, not, T, true≢false, List, [], ◌∷◌, ◌++◌, length, get_or, take, drop, map, filter, cond, refl, sym, ap, ◌∙◌, inl, inr, take-append-drop, get_or-take, get_or-drop, length-take-le, length-append, length-drop, arith}
 use Rattle.std.proofs.lemmas.Bool.{cases_lt}
 use Rattle.std.proofs.lemmas.List.{get_or_default}
 use Rattle.std.proofs.lemmas.List.Folds.{list_any_at, list_any_none}
@@ -7,8 +7,7 @@ use Rattle.std.proofs.lemmas.List.Sorted.{ranks_by, sorted_far}
 use Rattle.std.specs.declared.cmp.Ordering.{Ordering}
 use Rattle.std.specs.declared.cmp.Ordering.TheVariants as c
 use Rattle.std.specs.Ordering.{is_lt, ordering_reverse}
-use Rattle.std.specs.Cmp.Lexicographic.{bytes_decides, nat_list_eq_equiv}
-use Rattle.std.specs.List.{list_any}
+use Rattle.std.specs.Cmp.Lexicographic.{bytes_decides}
 use Rattle.std.specs.List.Sorted.{IsSortedBy}
 use Rattle.wb_outer.specs.declared.keeper.Row.{Row}
 use Rattle.std.specs.FinMap.{is_sorted}
@@ -187,8 +186,8 @@ module _ (rows : List Row) (rise : IsSortedBy comes_first rows) where
       (λ k e kl other. elim (cases_lt k i) as (λ _. same (get_or rows k e).key (get_or rows i d).key ≡ false) [
         | inl low ↦ not_true (same (get_or rows k e).key (get_or rows i d).key) (λ t. not_both (has_key (take i rows) (get_or rows i d).key) (in_take rows k i e (get_or rows i d).key low (omega arith) t) new)
         | inr high ↦
-          let after : i < k = omega (arith, other) in
-          ap (λ (q : Row). same q.key (get_or rows i d).key) (get_or_default rows k e d kl) ∙ apart_after i k d after kl (next (omega arith))
+            let after : i < k = omega (arith, other) in
+            ap (λ (q : Row). same q.key (get_or rows i d).key) (get_or_default rows k e d kl) ∙ apart_after i k d after kl (next (omega arith))
       ])
 
   -- where each key stands once, the rows ascend

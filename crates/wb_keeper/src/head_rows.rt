@@ -76,7 +76,11 @@ pub(crate) fn revision_at(alloc: Global, rows: &[Row], key: &str) -> Result<u64,
 }
 
 /// The numbers of roots that are the text of a key.
-pub(crate) fn roots_at(alloc: Global, rows: &[Row], key: &str) -> Result<List<ObjectId>, StoreRefusal>
+pub(crate) fn roots_at(
+    alloc: Global,
+    rows: &[Row],
+    key: &str,
+) -> Result<List<ObjectId>, StoreRefusal>
     ensures { ReadsHead rows.now key.now AreRoots result }
 {
     let Some(text) = text_at(rows, key) else {

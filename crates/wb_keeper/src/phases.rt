@@ -71,11 +71,7 @@ fn read_numbers(
 }
 
 // The roots, where not too many objects are kept.
-fn few_roots(
-    alloc: Global,
-    rows: &[Row],
-    sorted: &[&Row],
-) -> Result<List<ObjectId>, StoreRefusal>
+fn few_roots(alloc: Global, rows: &[Row], sorted: &[&Row]) -> Result<List<ObjectId>, StoreRefusal>
     requires { IsArranged rows.now (shown_by sorted.now) }
     ensures { ReadsHead rows.now (codes "roots") (λ text os. AreRoots text os × ¬ (HasTooMany rows.now)) result }
 {

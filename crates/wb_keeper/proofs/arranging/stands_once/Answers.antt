@@ -1,4 +1,4 @@
-use Rattle.std.proofs.Common.{ap, not, ◌∙◌, arith, length, ◌≡◌, sym, false, true, Bool, get_or, ◌+◌, refl, true≢false}
+use Rattle.std.proofs.Common.{not, ◌∙◌, arith, length, ◌≡◌, sym, false, true, Bool, get_or, ◌+◌, refl, true≢false}
 use Rattle.std.proofs.lemmas.List.{length-map}
 use Rattle.wb_keeper.specs.Arranged.{shown_by}
 use Rattle.wb_keeper.proofs.Sorts.{in_drop, in_take, is_same, once, twice_at}

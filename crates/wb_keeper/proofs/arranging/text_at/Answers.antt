@@ -1,7 +1,7 @@
 use Rattle.std.proofs.Common.{◌≡◌, ◌<◌, ◌∙◌, sym, ap, arith, rules, length, take, true, Bor, List, ℕ, Option, Some, None, is_some}
 use Rattle.std.specs.Option.{option_copied, option_to_list}
 use Rattle.wb_outer.specs.declared.keeper.Row.{Row}
-use Rattle.wb_keeper.specs.Phases.{has_key, same, texts_at}
+use Rattle.wb_keeper.specs.Phases.{same}
 use Rattle.wb_keeper.proofs.Sorts.{in_drop, text_stands, twice_at}
 use Rattle.wb_keeper.proofs.arranging.text_at.Goals as goal
 
