@@ -4,3 +4,4 @@ pub mod Sorts
 pub mod Shown
 pub mod Tally
 pub mod Alone
+pub mod SaidMarks
