@@ -1,9 +1,10 @@
 //! Commands: what is accepted is kept, and then is the session's state.
-ghost use Rattle.std.specs.Prelude.{◌≡◌};
+ghost use Rattle.std.specs.Prelude.{◌≡◌, Ok};
 ghost use Rattle.wb_http.specs.declared.routes.Route.TheVariants.{Command as CommandRoute};
 ghost use Rattle.wb_session.specs.Planning.{Follows, stepped_to};
 ghost use Rattle.wb_session.specs.Steps.{step};
 ghost use Rattle.wb_kept.specs.Keeping.{IsAnswered, Commands};
+ghost use Rattle.wb_kept.specs.Replies.{step_reply};
 
 use crate::kept_session::KeptSession;
 use crate::preparing::prepare;
