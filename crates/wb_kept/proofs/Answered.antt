@@ -1,13 +1,14 @@
 -- What is answered, by what is due.
-use Rattle.std.proofs.Common.{◌≡◌, ◌∙◌, ◌⊎◌, inl, inr, ℕ, ◌≤◌, Bool, List, [], Option, None, Some, Result, Ok, Err, refl, sym, ap, subst, omega, arith}
+use Rattle.std.proofs.Common.{◌≡◌, ◌∙◌, ◌⊎◌, inl, inr, ℕ, ◌≤◌, Bool, List, [], Option, None, Some, Result, Ok, Err, refl, sym, ap, subst, arith}
 use Rattle.std.specs.Prelude.{option_map}
 use Rattle.wb_base.specs.Answering.{IsRefusal}
 use Rattle.wb_outer.specs.Keeper.{Commits, KeeperTold, changed}
 use Rattle.wb_outer.specs.declared.keeper.Committed.TheVariants.{Done, Failed, NoMemory as Lacked}
 use Rattle.wb_outer.specs.declared.keeper.RowChange.{RowChange}
 use Rattle.wb_diagram.specs.declared.commands.Command.{Command}
-use Rattle.wb_commands.specs.Body.{command_in}
+use Rattle.wb_commands.specs.Body.{command_in, refusal_of}
 use Rattle.wb_commands.specs.declared.refusal.BodyRefusal.{BodyRefusal}
+use Rattle.wb_commands.specs.declared.refusal.BodyRefusal.TheVariants as refusals
 use Rattle.wb_picture.specs.Picture.{mapping_names}
 use Rattle.wb_refresh.specs.Outcomes.{Gives}
 use Rattle.wb_session.specs.Answering.{named}
@@ -17,7 +18,7 @@ use Rattle.wb_session.specs.States.{State}
 use Rattle.wb_session.specs.Steps.{Stepped}
 use Rattle.wb_session.specs.declared.refusal.Refusal.{Refusal}
 use Rattle.wb_session.specs.declared.refusal.Refusal.TheVariants as r
-use Rattle.wb_http.specs.Replies.{response}
+use Rattle.wb_http.specs.Replies.{fixed_status, fixed_text, response}
 use Rattle.wb_http.specs.declared.replies.FixedReply.TheVariants as fixed
 use Rattle.wb_http.specs.declared.routes.Route.{Route}
 use Rattle.wb_http.specs.declared.routes.Route.TheVariants as route
@@ -99,6 +100,15 @@ module _ (s : State) (keeper : KeeperTold) (close : Bool) where
 
 -- ---- requests
 
+-- the body has no command, or there was no memory to find one
+pub body_refused : (gives : Gives) (s : State) (keeper : KeeperTold) (close : Bool) (given : Result Command BodyRefusal) (refusal : BodyRefusal) (answer : Answer) → IsRefusal (refusal_of refusal) given
+    → (refusal ≡ refusals.BadBody → Says (response (fixed_status fixed.BadBody) None close (fixed_text fixed.BadBody)) answer) → (refusal ≡ refusals.NoMemory → answer ≡ NoMemory)
+    → Commands (command_reply gives s given) s s keeper keeper close answer
+body_refused gives s keeper close given refusals.BadBody answer is says memory =
+    subst (λ (g : Result Command BodyRefusal). Commands (command_reply gives s g) s s keeper keeper close answer) (sym is) (stays s keeper close (fixed_outcome fixed.BadBody None s) answer refl (says refl))
+body_refused gives s keeper close given refusals.NoMemory answer is says memory =
+    subst (Commands (command_reply gives s given) s s keeper keeper close) (sym (memory refl)) (lacks s keeper close (command_reply gives s given))
+
 module _ (gives : Gives) (s s' : State) (keeper keeper' : KeeperTold) (body : List ℕ) (close : Bool) where
   -- the body has a command
   pub commanded : (answer : Answer) → Commands (command_reply gives s (command_in body)) s s' keeper keeper' close answer → IsAnswered gives s s' keeper keeper' route.Command body close answer
@@ -115,16 +125,16 @@ module _ (gives : Gives) (s : State) (body : List ℕ) (close : Bool) where
   -- what is no command leaves the state
   shows_state : (it : Route) → (it ≡ route.Command → ⊥) → (reply gives s it body).after ≡ s
   unfolding reply
-  shows_state route.Diagram no = refl
-  shows_state (route.Element name) no = element_stays (text_named (mapping_names s.spec.0) (picture gives s) name)
-  shows_state route.Model no = refl
-  shows_state route.Command no = absurd (no refl)
-  shows_state route.Stop no = refl
+  shows_state route.Diagram none = refl
+  shows_state (route.Element name) none = element_stays (text_named (mapping_names s.spec.0) (picture gives s) name)
+  shows_state route.Model none = refl
+  shows_state route.Command none = absurd (none refl)
+  shows_state route.Stop none = refl
 
   pub shown : (keeper : KeeperTold) (it : Route) (answer : Answer) → (it ≡ route.Command → ⊥) → Says (text_of (reply gives s it body) close) answer → IsAnswered gives s s keeper keeper it body close answer
-  shown keeper it (Made text) no says lenders = record { answered = (says, sym (shows_state it no)); keeps = record { rows = λ was. was; later = omega arith; lenders = refl }; failed = λ f. absurd cc }
-  shown keeper it NoMemory no says lenders = record { answered = refl; keeps = record { rows = λ was. was; later = omega arith; lenders = refl }; failed = λ f. absurd cc }
-  shown keeper it Unkept no says lenders = absurd says
+  shown keeper it (Made text) none says lenders = record { answered = (says, sym (shows_state it none)); keeps = record { rows = λ was. was; later = omega arith; lenders = refl }; failed = λ f. absurd cc }
+  shown keeper it NoMemory none says lenders = record { answered = refl; keeps = record { rows = λ was. was; later = omega arith; lenders = refl }; failed = λ f. absurd cc }
+  shown keeper it Unkept none says lenders = absurd says
 
 -- what is no command, nor asks for the diagram, for an element or to stop, asks for the model
 pub asks_for_model : (it : Route) → (it ≡ route.Diagram → ⊥) → ((name : List ℕ) → it ≡ route.Element name → ⊥) → (it ≡ route.Command → ⊥) → (it ≡ route.Stop → ⊥) → it ≡ route.Model
