@@ -1,5 +1,5 @@
 //! All that an accepted command takes memory for, before the keeper is asked.
-ghost use Rattle.std.specs.Prelude.{◌≡◌, ◌+◌, IfOk, None, Some, string_bytes};
+ghost use Rattle.std.specs.Prelude.{◌≡◌, ◌+◌, ◌++◌, codes, decimal, IfOk, None, OnOk, Some, string_bytes};
 ghost use Rattle.wb_http.specs.Replies.{response};
 ghost use Rattle.wb_rows.specs.Texts.{Ascend};
 ghost use Rattle.wb_session.specs.Planning.{Follows, state_after};
@@ -101,7 +101,17 @@ fn accepted_text(
 fn created_text(alloc: Global, object: u32, revision: u64) -> Result<String, AllocError>
     ensures { IfOk result (λ text. string_bytes text ≡ accepted_text (Some object) revision) }
 {
-    format!(in alloc; "{{\"created\":{object},\"revision\":{revision}}}")
+    let mut text = format!(in alloc; "{{\"created\":{object}")?;
+    push_revision(&mut text, revision)?;
+    Ok(text)
+}
+
+fn push_revision(text: &mut String, revision: u64) -> Result<(), AllocError>
+    ensures { OnOk result (string_bytes text.new ≡ string_bytes text.old ++ codes ",\"revision\":" ++ decimal revision ++ codes "}") }
+{
+    text.push_str(",\"revision\":")?;
+    write!(text, "{revision}")?;
+    text.push_str("}")
 }
 
 #[tactic(auto, unfolding(crate::specs::Replies::accepted_text))]

@@ -32,5 +32,5 @@ unfolding reply
 returns-in_default g c =
     let gives = g.E.Evaluator.outcome_by in
     let s = c.args.session.now in
-    subst (λ (it : Route). Says (text_of (reply gives s it c.args.body.now) c.args.close) c.say_text.result) (sym (asks_for_model c.args.route.now c.in_default.not-Diagram c.in_default.not-Element c.requires.command c.requires.stop))
-    (subst (λ (m : Contents). Says (response 200 None c.args.close (model_text m)) c.say_text.result) c.model.ensures (c.say_text.ensures (model_text c.model.result.now) c.write_model.ensures))
+    subst (λ (it : Route). Says (text_of (reply gives s it c.args.body.now) c.args.close) c.say_text-in_default.result) (sym (asks_for_model c.args.route.now c.in_default.not-Diagram c.in_default.not-Element c.requires.command c.requires.stop))
+    (subst (λ (m : Contents). Says (response 200 None c.args.close (model_text m)) c.say_text-in_default.result) c.model.ensures (c.say_text-in_default.ensures (model_text c.model.result.now) c.write_model.ensures))
