@@ -66,7 +66,8 @@ impl<E: Evaluator> KeptSession<E> {
         requires { Follows E.outcome_by self.old planned.model planned.marks planned.turn planned.diagram }
         ensures { Commands (step_reply self.old (Ok (stepped_to self.old planned.model planned.marks planned.turn planned.created))) self.old self.new (K.told keeper.old) (K.told keeper.new) close result }
     {
-        let Ok(prepared) = prepare(alloc, &self.session, self.rows.as_slice(), &planned, close) else {
+        let Ok(prepared) = prepare(alloc, &self.session, self.rows.as_slice(), &planned, close)
+        else {
             return Answer::NoMemory;
         };
         match keeper.commit(alloc, prepared.changes.as_slice()) {

@@ -13,7 +13,9 @@ ghost use Rattle.wb_kept.specs.Replies.{text_at, text_named};
 use std::alloc::{AllocError, Global};
 use wb_aql_eval::Evaluator;
 use wb_base::Text;
-use wb_diagram::{AnyKey, Diagram, Edge, EdgeKey, Element, Key, read_key, write_edge, write_element};
+use wb_diagram::{
+    AnyKey, Diagram, Edge, EdgeKey, Element, Key, read_key, write_edge, write_element,
+};
 use wb_picture::mapping_names;
 use wb_session::Session;
 

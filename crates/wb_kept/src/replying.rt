@@ -81,7 +81,11 @@ pub(crate) fn show<E: Evaluator>(
 {
     match route {
         Route::Diagram => say_text(alloc, session.served(alloc), close),
-        Route::Element(key) => say_element(alloc, text_named(alloc, session, key.as_slice()), close),
+        Route::Element(key) => say_element(
+            alloc,
+            text_named(alloc, session, key.as_slice()),
+            close,
+        ),
         _ => say_text(alloc, write_model(alloc, session.model()), close),
     }
 }
