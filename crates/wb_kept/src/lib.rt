@@ -6,7 +6,11 @@ mod elements;
 mod kept_session;
 mod machine;
 mod preparing;
+mod refusal;
 mod replying;
+mod settling;
+mod starting;
 
 pub use kept_session::KeptSession;
 pub use machine::Server;
+pub use refusal::StartRefusal;
