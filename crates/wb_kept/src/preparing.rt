@@ -14,7 +14,7 @@ use wb_http::write_response;
 use wb_metamodel::ObjectId;
 use wb_outer::{Bytes, Row, RowChange};
 use wb_rows::{StateParts, changes, rows_ascend, write_rows};
-use wb_session::{Planned, Session};
+use wb_session::{Planned, Session, planned_can_be_written};
 
 /// What is kept and answered of a command, made whole before anything changes.
 #[derive(Drop)]
@@ -60,7 +60,7 @@ fn rows_after<E: Evaluator>(
     ensures rows { IfOk result (λ rows. rows ≡ state_rows (state_after session.now planned.now.model planned.now.marks planned.now.turn)) }
     ensures ascend { IfOk result Ascend }
 {
-    session.planned_can_be_written(planned);
+    planned_can_be_written(session, planned);
     let state = StateParts {
         model: &planned.model,
         root: session.root(),

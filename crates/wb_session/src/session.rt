@@ -63,18 +63,11 @@ impl<E: Evaluator> Session<E> {
         let _ = &self.model;
     }
 
-    /// A law: what is marked or placed has a key that can be written.
+    /// A law: what is marked or placed can be written.
     pub fn marks_can_be_written(&self)
         ensures { CanBeWritten self.now.body.marks }
     {
         let _ = &self.model;
-    }
-
-    /// The model as it stands.
-    pub fn model(&self) -> &Model
-        ensures { result.now ≡ model_of self.now }
-    {
-        &self.model
     }
 
     /// The viewpoint.
@@ -96,6 +89,13 @@ impl<E: Evaluator> Session<E> {
         ensures { result.now ≡ self.now.body.marks }
     {
         &self.marks
+    }
+
+    /// The model as it stands.
+    pub fn model(&self) -> &Model
+        ensures { result.now ≡ model_of self.now }
+    {
+        &self.model
     }
 
     /// The number of commands that were accepted so far.
