@@ -1,0 +1,5 @@
+pub mod Answered
+pub mod Finding
+pub mod Replacing
+pub mod Started
+pub mod Written

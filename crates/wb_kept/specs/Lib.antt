@@ -1,4 +1,5 @@
 pub mod States
 pub mod Replies
 pub mod Keeping
-pub mod Opening
+pub mod Settling
+pub mod Starting

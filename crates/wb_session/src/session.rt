@@ -1,6 +1,7 @@
 ghost use Rattle.std.specs.Prelude.{◌≡◌, ◌+◌, ◌≤◌, length};
 ghost use Rattle.wb_declared.specs.Declarations.{declared_edges, declared_nodes};
 ghost use Rattle.wb_refresh.specs.Openings.{IsOpened, all_units};
+ghost use Rattle.wb_rows.specs.States.{CanBeWritten};
 ghost use Rattle.wb_session.specs.States.{IsGood, model_of, subject_of};
 
 use crate::entries::Entry;
@@ -62,11 +63,11 @@ impl<E: Evaluator> Session<E> {
         let _ = &self.model;
     }
 
-    /// The model as it stands.
-    pub fn model(&self) -> &Model
-        ensures { result.now ≡ model_of self.now }
+    /// A law: what is marked or placed can be written.
+    pub fn marks_can_be_written(&self)
+        ensures { CanBeWritten self.now.body.marks }
     {
-        &self.model
+        let _ = &self.model;
     }
 
     /// The viewpoint.
@@ -88,6 +89,13 @@ impl<E: Evaluator> Session<E> {
         ensures { result.now ≡ self.now.body.marks }
     {
         &self.marks
+    }
+
+    /// The model as it stands.
+    pub fn model(&self) -> &Model
+        ensures { result.now ≡ model_of self.now }
+    {
+        &self.model
     }
 
     /// The number of commands that were accepted so far.
