@@ -8,12 +8,16 @@ use Rattle.wb_outer.specs.declared.shelf.Taken.TheVariants.{Bytes, TooBig, Faile
 use Rattle.wb_outer.specs.Shelf.{has_failed}
 use Rattle.wb_outer.specs.declared.shelf.Call.{Call}
 use Rattle.wb_program.specs.declared.answer.Answer.{Answer}
+use Rattle.wb_program.specs.declared.fate.Fate.{Fate}
+use Rattle.wb_program.specs.declared.fate.Fate.TheVariants.{Prints, Serves}
 use Rattle.wb_json.specs.Place.{Place}
 use Rattle.wb_program.specs.Answers.{not_built, usage, cannot_read, too_large, bad, refused, no_root_element}
-use Rattle.wb_program.specs.Course.{Course, gives, stops, asks, ◌>>=◌, after, answered, play}
+use Rattle.wb_program.specs.Course.{Course, gives, stops, asks, ◌>>=◌, after, fated, play}
 use Rattle.wb_program.specs.Causes.{IsCaused, HasCauses, some_failed}
 use Rattle.wb_program.specs.Taking.{taken, used}
 use Rattle.wb_program.specs.Reading.{or_refused, or_else}
+use Rattle.wb_program.specs.Opening.{printed}
+use Rattle.wb_program.specs.Runs.{IsPrint}
 
 -- what is known of a value that is no answer yet
 abbrev pub AnyValue : {A : Type 0} → Bool → A → Type 0
@@ -82,22 +86,51 @@ pub causes_or_else : {A : Type 0} (Given : Bool → A → Type 0) (failed : Bool
 causes_or_else Given failed answer (Some x) caused h = h x refl
 causes_or_else Given failed answer None caused h = caused
 
-ended : (failed : Bool) (given answer : Answer) → IsCaused failed given.status → Some given ≡ Some answer → IsCaused (failed || false) answer.status
-ended failed given answer h is =
-    let same : given ≡ answer = cc in
-    let P : Bool → Type 0 = λ b. IsCaused b answer.status in
-    subst P (sym (or-false failed)) (subst (λ (a : Answer). IsCaused failed a.status) same h)
+-- what becomes of a run has its cause where it is an answer
+abbrev pub FateCaused : Bool → Fate → Type 0
+FateCaused failed (Prints answer) = IsCaused failed answer.status
+FateCaused failed (Serves spec m connections) = Unit {0}
 
--- the answer after calls
-pub play_caused : (course : Course Answer) (failed : Bool) (calls : List Call) (answer : Answer) → HasCauses AnswerCaused failed course → play course calls ≡ Some answer → IsCaused (failed || some_failed calls) answer.status
-play_caused (gives given) failed [] answer h is = ended failed given answer h is
-play_caused (stops given) failed [] answer h is = ended failed given answer h is
-play_caused (asks name next) failed [] answer h is = cc
-play_caused (gives given) failed (call ∷ calls) answer h is = cc
-play_caused (stops given) failed (call ∷ calls) answer h is = cc
-play_caused (asks name next) failed (call ∷ calls) answer h is = by (same_name call.name name) (play_caused (next call.answer) (failed || has_failed call.answer) calls answer (h call.answer)) is
-  where
-    by : (b : Bool) → (play (next call.answer) calls ≡ Some answer → IsCaused ((failed || has_failed call.answer) || some_failed calls) answer.status)
-        → options.◌>>=◌ (cond b (after (next call.answer) calls) None) answered ≡ Some answer → IsCaused (failed || (has_failed call.answer || some_failed calls)) answer.status
-    by true rest now = subst (λ b. IsCaused b answer.status) (or_assoc failed (has_failed call.answer) (some_failed calls)) (rest now)
-    by false rest now = cc
+-- it is an answer
+abbrev pub IsPrinting : Bool → Fate → Type 0
+IsPrinting failed fate = IsPrint fate
+
+-- an answer with its cause is known of
+abbrev pub KnowsAnswers : (Bool → Fate → Type 0) → Type 0
+KnowsAnswers Given = (failed : Bool) (answer : Answer) → IsCaused failed answer.status → Given failed (Prints answer)
+
+module _ (Given : Bool → Fate → Type 0) (knows : KnowsAnswers Given) where
+  -- the answer of a course is printed
+  pub causes_printed : (failed : Bool) (course : Course Answer) → HasCauses AnswerCaused failed course → HasCauses Given failed (course >>= printed)
+  unfolding ◌>>=◌
+  causes_printed failed (gives answer) h = knows failed answer h
+  causes_printed failed (stops answer) h = h
+  causes_printed failed (asks name next) h = λ taken. causes_printed (failed || has_failed taken) (next taken) (h taken)
+
+  ended : (failed : Bool) (given fate : Fate) → Given failed given → Some given ≡ Some fate → Given (failed || false) fate
+  ended failed given fate h is =
+      let same : given ≡ fate = cc in
+      let P : Bool → Type 0 = λ b. Given b fate in
+      subst P (sym (or-false failed)) (subst (Given failed) same h)
+
+  -- what becomes of a run after calls
+  pub play_given : (course : Course Fate) (failed : Bool) (calls : List Call) (fate : Fate) → HasCauses Given failed course → play course calls ≡ Some fate → Given (failed || some_failed calls) fate
+  play_given (gives given) failed [] fate h is = ended failed given fate h is
+  play_given (stops given) failed [] fate h is = ended failed (Prints given) fate (knows failed given h) is
+  play_given (asks name next) failed [] fate h is = cc
+  play_given (gives given) failed (call ∷ calls) fate h is = cc
+  play_given (stops given) failed (call ∷ calls) fate h is = cc
+  play_given (asks name next) failed (call ∷ calls) fate h is = by (same_name call.name name) (play_given (next call.answer) (failed || has_failed call.answer) calls fate (h call.answer)) is
+    where
+      by : (b : Bool) → (play (next call.answer) calls ≡ Some fate → Given ((failed || has_failed call.answer) || some_failed calls) fate)
+          → options.◌>>=◌ (cond b (after (next call.answer) calls) None) fated ≡ Some fate → Given (failed || (has_failed call.answer || some_failed calls)) fate
+      by true rest now =
+          let P : Bool → Type 0 = λ b. Given b fate in
+          subst P (or_assoc failed (has_failed call.answer) (some_failed calls)) (rest now)
+      by false rest now = cc
+
+pub fates_known : KnowsAnswers FateCaused
+fates_known failed answer h = h
+
+pub prints_known : KnowsAnswers IsPrinting
+prints_known failed answer h = tt

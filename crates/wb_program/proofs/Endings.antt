@@ -1,46 +1,61 @@
--- How a run ends, of what it decides on and what the sink answers.
-use Rattle.std.proofs.Common.{◌≡◌, ◌∙◌, sym, ap, subst, refl, ℕ, ◌⊎◌, Bool, true, false, List, Option, Some, None, IsSome, IfSome, IfOk, [], Result, Ok, Err, inl, inr}
+-- How a run ends, of what it decides on and how that is met.
+use Rattle.std.proofs.Common.{◌≡◌, ◌∙◌, sym, ap, subst, refl, ℕ, Bool, true, false, List, Option, Some, None, IsSome, IfSome, IfOk, [], Result, Ok, Err}
 use Rattle.wb_base.specs.Options as options
 use Rattle.wb_outer.specs.Faults.{Rose}
 use Rattle.wb_outer.specs.declared.shelf.Call.{Call}
 use Rattle.wb_outer.specs.Shelf.{ShelfTold}
-use Rattle.wb_outer.specs.Sink.{SinkTold}
 use Rattle.wb_program.specs.declared.status.Status.{Status}
 use Rattle.wb_program.specs.declared.status.Status.TheVariants.{ShelfFault, SinkFault, KeeperFault, DoorFault, NoMemory}
 use Rattle.wb_program.specs.declared.answer.Answer.{Answer}
 use Rattle.wb_program.specs.declared.answer.Ending.{Ending}
 use Rattle.wb_program.specs.declared.answer.Ending.TheVariants as ending
-use Rattle.wb_program.specs.Course.{Course, stops, after, answered, play}
-use Rattle.wb_program.specs.Files.{Files, answer_over}
+use Rattle.wb_program.specs.declared.fate.Fate.{Fate}
+use Rattle.wb_program.specs.declared.fate.Fate.TheVariants.{Prints, Serves}
+use Rattle.wb_program.specs.Course.{Course, stops, after, fated, play}
+use Rattle.wb_program.specs.Files.{Files, fate_over}
 use Rattle.wb_program.specs.Causes.{IsCaused, HasCauses, some_failed}
 use Rattle.wb_program.specs.Asked.{AsksInTurn, AsksFront}
 use Rattle.wb_program.specs.Steps.{AreOf, Reaches, Went}
-use Rattle.wb_program.specs.Runs.{IsPrinted, IsPlayed, Settles, Concludes, IsDecision, Runs, IsOfFiles}
-use Rattle.wb_program.proofs.CausedAnswers.{AnswerCaused, play_caused}
+use Rattle.wb_program.specs.Runs.{CanBeMet, HasMemory, IsPrint, IsPlayed, Meets, Prepares, Settles, Concludes, IsDecision, Runs, IsOfFiles}
+use Rattle.wb_program.specs.Serving.{IsQuiet, Outside}
+use Rattle.wb_program.proofs.CausedAnswers.{FateCaused, IsPrinting, fates_known, play_given, prints_known}
+use Rattle.wb_program.proofs.Ends.{IsEnd, meets_end}
 use Rattle.wb_program.proofs.AskedNames.{front_asked, front_of}
 use Rattle.wb_program.proofs.OverFiles.{play_over}
 use Rattle.wb_program.proofs.Gifts.{gave_nothing}
 
 -- ---- what a run decides on
 
-concluded : {E : Type 0} (course : Course Answer) (calls : List Call) (step : Result Answer Ending) (result : Result Answer E) → Reaches step (after course calls) → Settles step result → Concludes (after course calls) (play course calls) result
-concluded course calls (Ok answer) (Ok given) h is = ap (λ left. options.◌>>=◌ left answered) h ∙ (let same : given ≡ answer = cc in ap Some (sym same))
-concluded course calls (Ok answer) (Err e) h is = cc
-concluded course calls (Err (ending.Answer answer)) (Ok given) h is = ap (λ left. options.◌>>=◌ left answered) h ∙ (let same : given ≡ answer = cc in ap Some (sym same))
+concluded : {E : Type 0} (course : Course Fate) (calls : List Call) (step : Result Fate Ending) (result : Result Fate E) → Reaches step (after course calls) → Settles step result → Concludes (after course calls) (play course calls) result
+concluded course calls (Ok fate) (Ok given) h is = ap (λ left. options.◌>>=◌ left fated) h ∙ (let same : given ≡ fate = cc in ap Some (sym same))
+concluded course calls (Ok fate) (Err e) h is = cc
+concluded course calls (Err (ending.Answer answer)) (Ok given) h is = ap (λ left. options.◌>>=◌ left fated) h ∙ (let same : given ≡ Prints answer = cc in ap Some (sym same))
 concluded course calls (Err (ending.Answer answer)) (Err e) h is = cc
 concluded course calls (Err ending.NoMemory) (Ok given) h is = cc
 concluded course calls (Err ending.NoMemory) (Err e) h is = h
 
-pub decided : {E : Type 0} (course : Course Answer) (step : Result Answer Ending) (result : Result Answer E) (old new : ShelfTold) → Went step course old new → Settles step result → IsDecision result course old new
+pub decided : {E : Type 0} (course : Course Fate) (step : Result Fate Ending) (result : Result Fate E) (old new : ShelfTold) → Went step course old new → Settles step result → IsDecision result course old new
 decided course step result old new h is = record { calls = h.calls; gave = h.gave; concludes = concluded course h.calls step result h.reaches is }
 
--- a run that stops at once
-stopped_at_once : {E : Type 0} (answer : Answer) (result : Result Answer E) → IfOk result (λ given. given ≡ answer) → Concludes (Some (stops answer)) (Some answer) result
-stopped_at_once answer (Ok given) h = ap Some (sym h)
-stopped_at_once answer (Err e) h = refl
+-- what it comes to can be met
+pub settled_can : {E : Type 0} (step : Result Fate Ending) (result : Result Fate E) → Settles step result → IfOk step CanBeMet → IfOk result CanBeMet
+settled_can (Ok fate) (Ok given) is can = let same : given ≡ fate = cc in subst CanBeMet (sym same) can
+settled_can (Ok fate) (Err e) is can = tt
+settled_can (Err (ending.Answer answer)) (Ok given) is can = let same : given ≡ Prints answer = cc in subst CanBeMet (sym same) tt
+settled_can (Err (ending.Answer answer)) (Err e) is can = tt
+settled_can (Err ending.NoMemory) (Ok given) is can = cc
+settled_can (Err ending.NoMemory) (Err e) is can = tt
 
-pub decided_at_once : {E : Type 0} (answer : Answer) (result : Result Answer E) (told : ShelfTold) → IfOk result (λ given. given ≡ answer) → IsDecision result (stops answer) told told
-decided_at_once answer result told h = record { calls = []; gave = gave_nothing told; concludes = stopped_at_once answer result h }
+pub prepared_can : (step : Result Answer Ending) (result : Result Fate Ending) → Prepares step result → IfOk result CanBeMet
+prepared_can (Ok answer) result is = subst (λ (r : Result Fate Ending). IfOk r CanBeMet) (sym is) tt
+prepared_can (Err e) result is = subst (λ (r : Result Fate Ending). IfOk r CanBeMet) (sym is) tt
+
+-- a run that stops at once
+pub decided_at_once : (E : Type 0) (answer : Answer) (told : ShelfTold) → IsDecision {E = E} (Ok (Prints answer)) (stops answer) told told
+decided_at_once E answer told = record { calls = []; gave = gave_nothing told; concludes = refl }
+
+pub undecided_at_once : {E : Type 0} (e : E) (answer : Answer) (told : ShelfTold) → IsDecision (Err e) (stops answer) told told
+undecided_at_once e answer told = record { calls = []; gave = gave_nothing told; concludes = refl }
 
 -- ---- how it ends
 
@@ -48,73 +63,66 @@ bind_some : {A B : Type 0} (o : Option A) (f : A → Option B) (y : B) → optio
 bind_some (Some x) f y h = refl
 bind_some None f y h = cc
 
-sink_is_not_memory : (status : Status) → status ≡ SinkFault → status ≡ NoMemory → ⊥
-sink_is_not_memory status sink memory = let e : SinkFault ≡ NoMemory = sym sink ∙ memory in cc
-
-printed_has_memory : (failed : Bool) (answer : Answer) (status : Status) (old new : SinkTold) → IsCaused failed answer.status → IsPrinted answer status old new → status ≡ NoMemory → ⊥
-printed_has_memory failed answer status old new h (inl p) is = subst (IsCaused failed) (sym p.ended ∙ is) h
-printed_has_memory failed answer status old new h (inr f) is = sink_is_not_memory status f.ended is
-
-pub ran : {E : Type 0} (course : Course Answer) (answer : Answer) (status : Status) (shelf_old shelf_new : ShelfTold) (sink_old sink_new : SinkTold)
-    → HasCauses AnswerCaused false course → IsDecision {E = E} (Ok answer) course shelf_old shelf_new → IsPrinted answer status sink_old sink_new
-    → Runs course status shelf_old shelf_new sink_old sink_new
-ran course answer status shelf_old shelf_new sink_old sink_new causes h printed = record {
+pub ran : {E : Type 0} (course : Course Fate) (fate : Fate) (status : Status) (shelf_old shelf_new : ShelfTold) (old new : Outside)
+    → IsDecision {E = E} (Ok fate) course shelf_old shelf_new → (¬ (status ≡ NoMemory) → Meets fate status old new) → (status ≡ NoMemory → IsQuiet old new)
+    → Runs course status shelf_old shelf_new old new
+ran course fate status shelf_old shelf_new old new h met memory = record {
   calls = h.calls;
   gave = h.gave;
-  along = bind_some (after course h.calls) answered answer h.concludes;
-  printed = λ _. subst (λ o. IsPlayed o status sink_old sink_new) (sym h.concludes) printed;
-  memory = λ is. absurd (printed_has_memory (some_failed h.calls) answer status sink_old sink_new (play_caused course false h.calls answer causes h.concludes) printed is);
+  along = bind_some (after course h.calls) fated fate h.concludes;
+  met = λ has. subst (λ o. IsPlayed o status old new) (sym h.concludes) (met has);
+  memory = memory;
 }
 
-pub ran_out : {E : Type 0} (e : E) (course : Course Answer) (shelf_old shelf_new : ShelfTold) (sink : SinkTold)
-    → IsDecision (Err e) course shelf_old shelf_new → Runs course NoMemory shelf_old shelf_new sink sink
-ran_out e course shelf_old shelf_new sink h = record {
+pub ran_out : {E : Type 0} (e : E) (course : Course Fate) (shelf_old shelf_new : ShelfTold) (told : Outside)
+    → IsDecision (Err e) course shelf_old shelf_new → Runs course NoMemory shelf_old shelf_new told told
+ran_out e course shelf_old shelf_new told h = record {
   calls = h.calls;
   gave = h.gave;
   along = h.concludes;
-  printed = λ no. absurd (no refl);
-  memory = λ _. refl;
+  met = λ no. absurd (no refl);
+  memory = λ _. (refl, refl);
 }
+
+-- what is decided on with its cause does not say that memory was wanting
+caused_memory : (failed : Bool) (status : Status) → IsCaused failed status → status ≡ NoMemory → ⊥
+caused_memory failed status h is = subst (IsCaused failed) is h
+
+fate_memory : (failed : Bool) (fate : Fate) → FateCaused failed fate → HasMemory fate
+fate_memory failed (Prints answer) h = caused_memory failed answer.status h
+fate_memory failed (Serves spec m connections) h = tt
+
+module _ {E : Type 0} (course : Course Fate) (fate : Fate) (old new : ShelfTold) (h : IsDecision {E = E} (Ok fate) course old new) where
+  pub decided_memory : HasCauses FateCaused false course → HasMemory fate
+  decided_memory causes = fate_memory (some_failed h.calls) fate (play_given FateCaused fates_known course false h.calls fate causes h.concludes)
+
+  pub decided_prints : HasCauses IsPrinting false course → IsPrint fate
+  decided_prints causes = play_given IsPrinting prints_known course false h.calls fate causes h.concludes
 
 -- ---- what follows of a run
 
--- its status is that of an answer with its cause, or a fault of the sink
-abbrev pub IsEnd : Bool → Status → SinkTold → SinkTold → Type 0
-IsEnd failed status old new = IsCaused failed status ⊎ ((status ≡ SinkFault) × Rose old.faults new.faults)
-
-end_played : (failed : Bool) (o : Option Answer) (status : Status) (old new : SinkTold) → ((answer : Answer) → o ≡ Some answer → IsCaused failed answer.status) → IsPlayed o status old new → IsEnd failed status old new
+end_played : (failed : Bool) (o : Option Fate) (status : Status) (old new : Outside) → ((fate : Fate) → o ≡ Some fate → FateCaused failed fate) → IsPlayed o status old new → IsEnd failed status old new
 end_played failed None status old new caused played = absurd played
-end_played failed (Some answer) status old new caused (inl p) = inl (subst (IsCaused failed) (sym p.ended) (caused answer refl))
-end_played failed (Some answer) status old new caused (inr f) = inr (f.ended, f.rose)
+end_played failed (Some fate) status old new caused played = meets_end failed status old new fate (caused fate refl) played
 
-module _ (course : Course Answer) (status : Status) (shelf_old shelf_new : ShelfTold) (sink_old sink_new : SinkTold) (causes : HasCauses AnswerCaused false course) where
-  end_of : (h : Runs course status shelf_old shelf_new sink_old sink_new) → ¬ (status ≡ NoMemory) → IsEnd (some_failed h.calls) status sink_old sink_new
-  end_of h has_memory = end_played (some_failed h.calls) (play course h.calls) status sink_old sink_new (λ answer is. play_caused course false h.calls answer causes is) (h.printed has_memory)
+module _ (course : Course Fate) (status : Status) (shelf_old shelf_new : ShelfTold) (old new : Outside) (causes : HasCauses FateCaused false course) (h : Runs course status shelf_old shelf_new old new) where
+  end_of : ¬ (status ≡ NoMemory) → IsEnd (some_failed h.calls) status old new
+  end_of has_memory = end_played (some_failed h.calls) (play course h.calls) status old new (λ fate is. play_given FateCaused fates_known course false h.calls fate causes is) (h.met has_memory)
 
-  shelf_fault_in : (failed : Bool) → (failed ≡ true → Rose shelf_old.faults shelf_new.faults) → status ≡ ShelfFault → IsEnd failed status sink_old sink_new → Rose shelf_old.faults shelf_new.faults
-  shelf_fault_in failed rose is (inl caused) = rose (subst (IsCaused failed) is caused)
-  shelf_fault_in failed rose is (inr f) = absurd (let e : SinkFault ≡ ShelfFault = sym f.0 ∙ is in cc)
+  ends_with : (s : Status) → ¬ (s ≡ NoMemory) → status ≡ s → IsEnd (some_failed h.calls) s old new
+  ends_with s has_memory is = subst (λ (x : Status). IsEnd (some_failed h.calls) x old new) is (end_of (λ memory. has_memory (sym is ∙ memory)))
 
-  pub shelf_fault_of : Runs course status shelf_old shelf_new sink_old sink_new → status ≡ ShelfFault → Rose shelf_old.faults shelf_new.faults
-  shelf_fault_of h is = shelf_fault_in (some_failed h.calls) h.gave.failed is (end_of h (λ memory. let e : ShelfFault ≡ NoMemory = sym is ∙ memory in cc))
+  pub shelf_fault_of : status ≡ ShelfFault → Rose shelf_old.faults shelf_new.faults
+  shelf_fault_of is = h.gave.failed (ends_with ShelfFault (λ e. cc) is)
 
-  sink_fault_in : (failed : Bool) → status ≡ SinkFault → IsEnd failed status sink_old sink_new → Rose sink_old.faults sink_new.faults
-  sink_fault_in failed is (inl caused) = absurd (subst (IsCaused failed) is caused)
-  sink_fault_in failed is (inr f) = f.1
+  pub sink_fault_of : status ≡ SinkFault → Rose old.sink.faults new.sink.faults
+  sink_fault_of is = ends_with SinkFault (λ e. cc) is
 
-  pub sink_fault_of : Runs course status shelf_old shelf_new sink_old sink_new → status ≡ SinkFault → Rose sink_old.faults sink_new.faults
-  sink_fault_of h is = sink_fault_in (some_failed h.calls) is (end_of h (sink_is_not_memory status is))
+  pub keeper_fault_of : status ≡ KeeperFault → Rose old.keeper.faults new.keeper.faults
+  keeper_fault_of is = ends_with KeeperFault (λ e. cc) is
 
-  undecided : (failed : Bool) (s : Status) → (IsCaused failed s → ⊥) → ¬ (SinkFault ≡ s) → status ≡ s → IsEnd failed status sink_old sink_new → ⊥
-  undecided failed s none other is (inl caused) = none (subst (IsCaused failed) is caused)
-  undecided failed s none other is (inr f) = other (sym f.0 ∙ is)
-
-  -- no run ends so that asks for no connections
-  pub no_keeper_fault : Runs course status shelf_old shelf_new sink_old sink_new → status ≡ KeeperFault → ⊥
-  no_keeper_fault h is = undecided (some_failed h.calls) KeeperFault (λ c. c) (λ (e : SinkFault ≡ KeeperFault). cc) is (end_of h (λ memory. let e : KeeperFault ≡ NoMemory = sym is ∙ memory in cc))
-
-  pub no_door_fault : Runs course status shelf_old shelf_new sink_old sink_new → status ≡ DoorFault → ⊥
-  no_door_fault h is = undecided (some_failed h.calls) DoorFault (λ c. c) (λ (e : SinkFault ≡ DoorFault). cc) is (end_of h (λ memory. let e : DoorFault ≡ NoMemory = sym is ∙ memory in cc))
+  pub door_fault_of : status ≡ DoorFault → Rose old.door.faults new.door.faults
+  door_fault_of is = ends_with DoorFault (λ e. cc) is
 
 -- ---- over files
 
@@ -122,18 +130,18 @@ calm_calls : (b : Bool) (before now : ℕ) → (b ≡ true → Rose before now) 
 calm_calls true before now rose calm = absurd (calm (rose refl))
 calm_calls false before now rose calm = refl
 
-played_over : (files : Files) (course : Course Answer) (status : Status) (old new : SinkTold) (o : Option Answer) → ((answer : Answer) → o ≡ Some answer → answer ≡ answer_over files course) → IsPlayed o status old new → IsPrinted (answer_over files course) status old new
+played_over : (files : Files) (course : Course Fate) (status : Status) (old new : Outside) (o : Option Fate) → ((fate : Fate) → o ≡ Some fate → fate ≡ fate_over files course) → IsPlayed o status old new → Meets (fate_over files course) status old new
 played_over files course status old new None same played = absurd played
-played_over files course status old new (Some answer) same played = subst (λ a. IsPrinted a status old new) (same answer refl) played
+played_over files course status old new (Some fate) same played = subst (λ f. Meets f status old new) (same fate refl) played
 
-module _ (course : Course Answer) (status : Status) (shelf_old shelf_new : ShelfTold) (sink_old sink_new : SinkTold) (h : Runs course status shelf_old shelf_new sink_old sink_new) where
-  over : (files : Option Files) → IfSome files (λ told. AreOf told h.calls) → IfSome files (IsOfFiles (λ told. answer_over told course) status shelf_old shelf_new sink_old sink_new)
+module _ (course : Course Fate) (status : Status) (shelf_old shelf_new : ShelfTold) (old new : Outside) (h : Runs course status shelf_old shelf_new old new) where
+  over : (files : Option Files) → IfSome files (λ told. AreOf told h.calls) → IfSome files (IsOfFiles (λ told. fate_over told course) status shelf_old shelf_new old new)
   over None told = tt
   over (Some files) told = λ calm has_memory.
-      played_over files course status sink_old sink_new (play course h.calls)
-      (λ answer is. play_over files course h.calls answer told (calm_calls (some_failed h.calls) shelf_old.faults shelf_new.faults h.gave.failed calm) is) (h.printed has_memory)
+      played_over files course status old new (play course h.calls)
+      (λ fate is. play_over files course h.calls fate told (calm_calls (some_failed h.calls) shelf_old.faults shelf_new.faults h.gave.failed calm) is) (h.met has_memory)
 
-  pub files_of_run : IfSome shelf_old.files (IsOfFiles (λ told. answer_over told course) status shelf_old shelf_new sink_old sink_new)
+  pub files_of_run : IfSome shelf_old.files (IsOfFiles (λ told. fate_over told course) status shelf_old shelf_new old new)
   files_of_run = over shelf_old.files h.gave.told
 
   pub asked_of_run : (names : List (List ℕ)) → AsksInTurn names course → AsksFront shelf_old.given shelf_new.given names

@@ -1,5 +1,5 @@
 -- Laws of the course of a run: its answers have their causes, and it asks for the words' files in turn.
-use Rattle.std.proofs.Common.{◌≡◌, refl, ℕ, Bool, false, List, [], ◌∷◌, length, cond, true, Option, Some, None, IfOk, Result, Ok, Err, option_map, option_and_then, subst}
+use Rattle.std.proofs.Common.{◌≡◌, sym, append-nil, refl, ℕ, Bool, false, List, [], ◌∷◌, length, cond, true, Option, Some, None, IfOk, Result, Ok, Err, option_map, option_and_then, subst}
 use Rattle.wb_outer.specs.declared.shelf.Taken.{Taken}
 use Rattle.wb_outer.specs.declared.shelf.Taken.TheVariants.{Bytes, TooBig, Failed}
 use Rattle.wb_outer.specs.Shelf.{ShelfTold}
@@ -12,10 +12,12 @@ use Rattle.wb_viewpoint.specs.Reading.{viewpoint}
 use Rattle.wb_viewpoint.specs.declared.content.Content.{Content}
 use Rattle.wb_program.specs.declared.answer.Answer.{Answer}
 use Rattle.wb_program.specs.declared.answer.Ending.{Ending}
+use Rattle.wb_program.specs.declared.fate.Fate.{Fate}
+use Rattle.wb_program.specs.declared.fate.Fate.TheVariants.{Prints, Serves}
 use Rattle.wb_program.specs.Answers.{not_built, usage, no_root_element, diagram_too_large}
 use Rattle.wb_program.specs.CodeNames.{metamodel_code_name, viewpoint_code_name, model_code_name}
-use Rattle.wb_program.specs.Words.{Sources, Task, check, draw, serve, big, task_in, texts_of, task_of, files_of}
-use Rattle.wb_program.specs.Course.{gives, stops, ◌>>=◌}
+use Rattle.wb_program.specs.Words.{Sources, Task, check, draw, serve, big, task_in, texts_of, task_of, files_of, names_in, takes_connections}
+use Rattle.wb_program.specs.Course.{Course, gives, stops, ◌>>=◌}
 use Rattle.wb_program.specs.Causes.{HasCauses}
 use Rattle.wb_program.specs.Asked.{AsksInTurn}
 use Rattle.wb_program.specs.Taking.{taken, used}
@@ -28,10 +30,10 @@ use Rattle.wb_program.specs.Drawing.{drawn, is_too_large, picture_answer}
 use Rattle.wb_program.specs.Steps.{Went}
 use Rattle.wb_program.specs.Runs.{IsDecision, Settles}
 use Rattle.wb_session.specs.Opening.{root_element}
-use Rattle.wb_program.specs.Opening.{metamodel_under, viewpoint_under, model_under, picture_from, checked_under, checking, drawing, task_course, course_for, course_of}
-use Rattle.wb_program.proofs.CausedAnswers.{AnyValue, AnswerCaused, causes_then, causes_taken, causes_or_refused, causes_or_else, not_built_caused, usage_caused, no_root_caused}
+use Rattle.wb_program.specs.Opening.{metamodel_under, viewpoint_under, model_under, picture_from, checked_under, checking, drawing, printed, served_from, serving, task_course, course_for, course_of}
+use Rattle.wb_program.proofs.CausedAnswers.{AnyValue, AnswerCaused, FateCaused, IsPrinting, causes_printed, fates_known, prints_known, causes_then, causes_taken, causes_or_refused, causes_or_else, not_built_caused, usage_caused, no_root_caused}
 use Rattle.wb_program.proofs.AskedNames.{turns_then}
-use Rattle.wb_program.proofs.Endings.{decided, decided_at_once}
+use Rattle.wb_program.proofs.Endings.{decided, decided_at_once, undecided_at_once}
 
 -- ---- a file that is read
 
@@ -168,16 +170,59 @@ turns_drawing sources =
     turns_then (sources.viewpoint ∷ []) (sources.model ∷ []) (checked_under mm sources.viewpoint) _ (turns_checked mm sources.viewpoint) (λ spec.
     turns_then (sources.model ∷ []) [] (model_under mm sources.model) (picture_from sources.model spec) (turns_model mm sources.model) (λ m. turns_picture sources.model spec m)))
 
-pub causes_of_course : (words : List (List ℕ)) → HasCauses AnswerCaused false (course_of words)
+causes_served : (name : List ℕ) (spec : Specification) (m : Contents) (connections : ℕ) (failed : Bool) → HasCauses FateCaused failed (served_from name spec m connections)
+unfolding served_from
+causes_served name spec m connections failed =
+    causes_then FateCaused failed (or_else (no_root_element name) (root_element m spec.1.domain)) (λ _. gives (Serves spec m connections))
+    (causes_or_else AnyValue failed (no_root_element name) (root_element m spec.1.domain) (no_root_caused name failed) (λ root is. tt))
+    (λ root b. tt)
+
+turns_served : (name : List ℕ) (spec : Specification) (m : Contents) (connections : ℕ) → AsksInTurn [] (served_from name spec m connections)
+unfolding served_from
+turns_served name spec m connections =
+    turns_then [] [] (or_else (no_root_element name) (root_element m spec.1.domain)) (λ _. gives (Serves spec m connections)) (turns_or_else (no_root_element name) (root_element m spec.1.domain))
+    (λ root. tt)
+
+causes_serving : (sources : Sources) (connections : ℕ) (failed : Bool) → HasCauses FateCaused failed (serving sources connections)
+unfolding serving
+causes_serving sources connections failed =
+    causes_then FateCaused failed (metamodel_under sources.metamodel) _ (causes_metamodel sources.metamodel failed) (λ mm b.
+    causes_then FateCaused b (checked_under mm sources.viewpoint) _ (causes_checked mm sources.viewpoint b) (λ spec d.
+    causes_then FateCaused d (model_under mm sources.model) (λ m. served_from sources.model spec m connections) (causes_model mm sources.model d) (λ m e. causes_served sources.model spec m connections e)))
+
+turns_serving : (sources : Sources) (connections : ℕ) → AsksInTurn (sources.metamodel ∷ sources.viewpoint ∷ sources.model ∷ []) (serving sources connections)
+unfolding serving
+turns_serving sources connections =
+    turns_then (sources.metamodel ∷ []) (sources.viewpoint ∷ sources.model ∷ []) (metamodel_under sources.metamodel) _ (turns_metamodel sources.metamodel) (λ mm.
+    turns_then (sources.viewpoint ∷ []) (sources.model ∷ []) (checked_under mm sources.viewpoint) _ (turns_checked mm sources.viewpoint) (λ spec.
+    turns_then (sources.model ∷ []) [] (model_under mm sources.model) (λ m. served_from sources.model spec m connections) (turns_model mm sources.model) (λ m. turns_served sources.model spec m connections)))
+
+-- the answer of a course is printed; that asks for no file
+turns_printed : (names : List (List ℕ)) (course : Course Answer) → AsksInTurn names course → AsksInTurn names (course >>= printed)
+turns_printed names course h = subst (λ (ns : List (List ℕ)). AsksInTurn ns (course >>= printed)) (append-nil names) (turns_then names [] course printed h (λ answer. tt))
+
+pub causes_of_course : (words : List (List ℕ)) → HasCauses FateCaused false (course_of words)
 unfolding course_of
 causes_of_course words = by (task_of words)
   where
-    by : (task : Option Task) → HasCauses AnswerCaused false (course_for task)
+    by : (task : Option Task) → HasCauses FateCaused false (course_for task)
     by None = usage_caused false
-    by (Some (check mm_name name)) = causes_checking mm_name name false
-    by (Some (draw sources)) = causes_drawing sources false
-    by (Some (serve sources connections)) = not_built_caused false
+    by (Some (check mm_name name)) = causes_printed FateCaused fates_known false (checking mm_name name) (causes_checking mm_name name false)
+    by (Some (draw sources)) = causes_printed FateCaused fates_known false (drawing sources) (causes_drawing sources false)
+    by (Some (serve sources connections)) = causes_serving sources connections false
     by (Some (big number)) = not_built_caused false
+
+-- words that ask for no connections come to an answer
+pub prints_of_course : (words : List (List ℕ)) → takes_connections (task_of words) ≡ false → HasCauses IsPrinting false (course_of words)
+unfolding course_of
+prints_of_course words h = by (task_of words) h
+  where
+    by : (task : Option Task) → takes_connections task ≡ false → HasCauses IsPrinting false (course_for task)
+    by None none = usage_caused false
+    by (Some (check mm_name name)) none = causes_printed IsPrinting prints_known false (checking mm_name name) (causes_checking mm_name name false)
+    by (Some (draw sources)) none = causes_printed IsPrinting prints_known false (drawing sources) (causes_drawing sources false)
+    by (Some (serve sources connections)) none = cc
+    by (Some (big number)) none = not_built_caused false
 
 pub turns_of_course : (words : List (List ℕ)) → AsksInTurn (files_of (task_of words)) (course_of words)
 unfolding course_of
@@ -185,32 +230,37 @@ turns_of_course words = by (task_of words)
   where
     by : (task : Option Task) → AsksInTurn (files_of task) (course_for task)
     by None = tt
-    by (Some (check mm_name name)) = turns_checking mm_name name
-    by (Some (draw sources)) = turns_drawing sources
-    by (Some (serve sources connections)) = tt
+    by (Some (check mm_name name)) = turns_printed (mm_name ∷ name ∷ []) (checking mm_name name) (turns_checking mm_name name)
+    by (Some (draw sources)) = turns_printed (names_in sources) (drawing sources) (turns_drawing sources)
+    by (Some (serve sources connections)) = turns_serving sources connections
     by (Some (big number)) = tt
 
 -- ---- what a run decides on
 
-pub decided_task : {E : Type 0} (due : Option Task) (task : Task) (step : Result Answer Ending) (result : Result Answer E) (old new : ShelfTold)
+pub decided_task : {E : Type 0} (due : Option Task) (task : Task) (step : Result Fate Ending) (result : Result Fate E) (old new : ShelfTold)
     → Some task ≡ due → Went step (task_course task) old new → Settles step result → IsDecision result (course_for due) old new
 decided_task due task step result old new is h settles =
     subst (λ (t : Option Task). IsDecision result (course_for t) old new) is (decided (task_course task) step result old new h settles)
 
-pub decided_none : {E : Type 0} (due : Option Task) (result : Result Answer E) (told : ShelfTold)
-    → None ≡ due → IfOk result (λ answer. answer ≡ usage) → IsDecision result (course_for due) told told
-decided_none due result told is h =
-    subst (λ (t : Option Task). IsDecision result (course_for t) told told) is (decided_at_once usage result told h)
+-- the usage line, for words of no form
+pub decided_none : (E : Type 0) (due : Option Task) (answer : Answer) (told : ShelfTold)
+    → None ≡ due → answer ≡ usage → IsDecision {E = E} (Ok (Prints answer)) (course_for due) told told
+decided_none E due answer told is h =
+    subst (λ (t : Option Task). IsDecision {E = E} (Ok (Prints answer)) (course_for t) told told) is
+    (subst (λ (a : Answer). IsDecision {E = E} (Ok (Prints a)) (stops usage) told told) (sym h) (decided_at_once E usage told))
+
+pub undecided_none : {E : Type 0} (due : Option Task) (e : E) (told : ShelfTold) → None ≡ due → IsDecision (Err e) (course_for due) told told
+undecided_none {E} due e told is = subst (λ (t : Option Task). IsDecision {E = E} (Err e) (course_for t) told told) is (undecided_at_once e usage told)
 
 -- what a run decides on for words that are texts, and for others
-pub decided_texts : {E : Type 0} (words texts : List (List ℕ)) (result : Result Answer E) (old new : ShelfTold)
+pub decided_texts : {E : Type 0} (words texts : List (List ℕ)) (result : Result Fate E) (old new : ShelfTold)
     → Some texts ≡ texts_of words → IsDecision result (course_for (task_in texts)) old new → IsDecision result (course_of words) old new
 unfolding course_of task_of
 decided_texts words texts result old new is h =
     subst (λ (found : Option (List (List ℕ))). IsDecision result (course_for (option_and_then task_in found)) old new) is h
 
-pub decided_no_texts : {E : Type 0} (words : List (List ℕ)) (result : Result Answer E) (told : ShelfTold)
-    → None ≡ texts_of words → IfOk result (λ answer. answer ≡ usage) → IsDecision result (course_of words) told told
+pub decided_no_texts : {E : Type 0} (words : List (List ℕ)) (result : Result Fate E) (told : ShelfTold)
+    → None ≡ texts_of words → IsDecision result (stops usage) told told → IsDecision result (course_of words) told told
 unfolding course_of task_of
 decided_no_texts words result told is h =
-    subst (λ (found : Option (List (List ℕ))). IsDecision result (course_for (option_and_then task_in found)) told told) is (decided_at_once usage result told h)
+    subst (λ (found : Option (List (List ℕ))). IsDecision result (course_for (option_and_then task_in found)) told told) is h

@@ -3,6 +3,7 @@ pub mod CausedAnswers
 pub mod Courses
 pub mod Drawings
 pub mod Endings
+pub mod Ends
 pub mod Gifts
 pub mod Lawful
 pub mod Numerals

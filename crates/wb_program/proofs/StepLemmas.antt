@@ -8,9 +8,13 @@ use Rattle.wb_outer.specs.declared.shelf.Call.{Call}
 use Rattle.wb_outer.specs.Shelf.{ShelfTold}
 use Rattle.wb_program.specs.declared.answer.Answer.{Answer}
 use Rattle.wb_program.specs.declared.answer.Ending.{Ending}
+use Rattle.wb_program.specs.declared.fate.Fate.{Fate}
+use Rattle.wb_program.specs.declared.fate.Fate.TheVariants.{Prints}
 use Rattle.wb_program.specs.declared.answer.Ending.TheVariants as ending
 use Rattle.wb_program.specs.Course.{Course, stops, asks, ◌>>=◌, after}
 use Rattle.wb_program.specs.Steps.{Reaches, Went, EndsWith}
+use Rattle.wb_program.specs.Opening.{printed}
+use Rattle.wb_program.specs.Runs.{Prepares}
 use Rattle.wb_program.proofs.Courses.{after_stops, after_some, after_gives}
 use Rattle.wb_program.proofs.Gifts.{gave_nothing, gave_one, gave_then}
 
@@ -55,3 +59,11 @@ returned (Err other) e course old new is h = subst (λ (ending : Ending). Went (
 pub ends_with : (A : Type 0) (e : Ending) (answer : Answer) → EndsWith e answer → Reaches {A = A} (Err e) (Some (stops answer))
 ends_with A (ending.Answer given) answer h = ap (λ a. Some (stops a)) (sym h)
 ends_with A ending.NoMemory answer h = refl
+
+-- an answer that is printed behind a step
+pub went_printed : (step : Result Answer Ending) (result : Result Fate Ending) (course : Course Answer) (old new : ShelfTold) → Went step course old new → Prepares step result → Went result (course >>= printed) old new
+went_printed (Ok answer) result course old new h is =
+    subst (λ (r : Result Fate Ending). Went r (course >>= printed) old new) (sym is)
+    (gone_on answer (Ok (Prints answer)) course printed old new new h (went_nowhere (Ok (Prints answer)) (printed answer) new refl))
+went_printed (Err e) result course old new h is =
+    subst (λ (r : Result Fate Ending). Went r (course >>= printed) old new) (sym is) (stopped e course printed old new h)

@@ -25,6 +25,11 @@ abbrev pub CanBeMet : Fate → Type 0
 CanBeMet (Prints answer) = ⊤
 CanBeMet (Serves spec m connections) = CanServe spec m
 
+-- an answer does not say that memory was wanting
+abbrev pub HasMemory : Fate → Type 0
+HasMemory (Prints answer) = ¬ (answer.status ≡ NoMemory)
+HasMemory (Serves spec m connections) = ⊤
+
 abbrev pub IsPrint : Fate → Type 0
 IsPrint (Prints answer) = ⊤
 IsPrint (Serves spec m connections) = ⊥

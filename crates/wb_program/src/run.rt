@@ -1,4 +1,4 @@
-ghost use Rattle.std.specs.Prelude.{◌≡◌, false, Some, IfSome, map};
+ghost use Rattle.std.specs.Prelude.{◌≡◌, false, Some, IfOk, IfSome, map};
 ghost use Rattle.wb_outer.specs.Faults.{Rose};
 ghost use Rattle.wb_program.specs.declared.status.Status.TheVariants.{ShelfFault, SinkFault, KeeperFault, DoorFault, NoMemory};
 ghost use Rattle.wb_program.specs.Words as asked;
@@ -7,7 +7,7 @@ ghost use Rattle.wb_program.specs.Opening.{course_of, course_for, task_course, f
 ghost use Rattle.wb_program.specs.Asked.{AsksFront};
 ghost use Rattle.wb_program.specs.Steps.{Went};
 ghost use Rattle.wb_program.specs.Serving.{IsQuiet, outside};
-ghost use Rattle.wb_program.specs.Runs.{CanBeMet, IsPrint, Meets, Runs, IsOfFiles, IsDecision, Prepares, Settles};
+ghost use Rattle.wb_program.specs.Runs.{CanBeMet, HasMemory, IsPrint, Meets, Runs, IsOfFiles, IsDecision, Prepares, Settles};
 
 use crate::answer::{Answer, Ending, ended_by, not_built, usage};
 use crate::checking::check;
@@ -65,7 +65,8 @@ fn decide<H: Shelf, L>(
     shelf: &mut H,
     steps: &mut Steps<L>,
 ) -> Result<Fate, AllocError>
-    ensures { IsDecision result (course_of words.now) (H.told shelf.old) (H.told shelf.new) }
+    ensures decision { IsDecision result (course_of words.now) (H.told shelf.old) (H.told shelf.new) }
+    ensures can { IfOk result CanBeMet }
 {
     match texts_of(alloc, words)? {
         Some(texts) => decide_on(alloc, texts.as_slice(), shelf, steps),
@@ -80,7 +81,8 @@ fn decide_on<H: Shelf, L>(
     shelf: &mut H,
     steps: &mut Steps<L>,
 ) -> Result<Fate, AllocError>
-    ensures { IsDecision result (course_for (asked.task_in (map (λ word. word.now) words.now))) (H.told shelf.old) (H.told shelf.new) }
+    ensures decision { IsDecision result (course_for (asked.task_in (map (λ word. word.now) words.now))) (H.told shelf.old) (H.told shelf.new) }
+    ensures can { IfOk result CanBeMet }
 {
     match task_of(alloc, words)? {
         Some(task) => conclude(perform(alloc, shelf, task, steps)),
@@ -95,7 +97,8 @@ fn perform<H: Shelf, L>(
     task: Task<'_>,
     steps: &mut Steps<L>,
 ) -> Result<Fate, Ending>
-    ensures { Went result (task_course (shown task.entry)) (H.told shelf.old) (H.told shelf.new) }
+    ensures went { Went result (task_course (shown task.entry)) (H.told shelf.old) (H.told shelf.new) }
+    ensures can { IfOk result CanBeMet }
 {
     match task {
         Task::Check(metamodel, viewpoint) => printed(check(alloc, shelf, metamodel, viewpoint)),
@@ -134,7 +137,8 @@ fn meet<D: Door, K: Keeper, O: Sink, L>(
     out: &mut O,
     steps: &mut Steps<L>,
 ) -> Status
-    requires { CanBeMet fate }
+    requires can { CanBeMet fate }
+    requires memory { HasMemory fate }
     ensures met { ¬ (result ≡ NoMemory) → Meets fate result (outside (O.told out.old) (D.told door.old) (K.told keeper.old)) (outside (O.told out.new) (D.told door.new) (K.told keeper.new)) }
     ensures memory { result ≡ NoMemory → IsQuiet (outside (O.told out.old) (D.told door.old) (K.told keeper.old)) (outside (O.told out.new) (D.told door.new) (K.told keeper.new)) }
     ensures door_stays { IsPrint fate → door.new ≡ door.old }
