@@ -11,6 +11,7 @@ use Rattle.wb_program.specs.declared.answer.Ending.{Ending}
 use Rattle.wb_program.specs.declared.answer.Ending.TheVariants as ending
 use Rattle.wb_program.specs.declared.fate.Fate.{Fate}
 use Rattle.wb_program.specs.declared.fate.Fate.TheVariants.{Prints, Serves}
+use Rattle.wb_program.specs.Answers.{usage}
 use Rattle.wb_program.specs.Course.{Course, stops, after, fated, play}
 use Rattle.wb_program.specs.Files.{Files, fate_over}
 use Rattle.wb_program.specs.Causes.{IsCaused, HasCauses, some_failed}
@@ -54,8 +55,8 @@ prepared_can (Err e) result is = subst (λ (r : Result Fate Ending). IfOk r CanB
 pub decided_at_once : (E : Type 0) (answer : Answer) (told : ShelfTold) → IsDecision {E = E} (Ok (Prints answer)) (stops answer) told told
 decided_at_once E answer told = record { calls = []; gave = gave_nothing told; concludes = refl }
 
-pub undecided_at_once : {E : Type 0} (e : E) (answer : Answer) (told : ShelfTold) → IsDecision (Err e) (stops answer) told told
-undecided_at_once e answer told = record { calls = []; gave = gave_nothing told; concludes = refl }
+pub decided_usage : (E : Type 0) (answer : Answer) (told : ShelfTold) → answer ≡ usage → IsDecision {E = E} (Ok (Prints answer)) (stops usage) told told
+decided_usage E answer told h = subst (λ (a : Answer). IsDecision {E = E} (Ok (Prints a)) (stops usage) told told) (sym h) (decided_at_once E usage told)
 
 -- ---- how it ends
 

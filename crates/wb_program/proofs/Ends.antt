@@ -1,5 +1,5 @@
 -- The statuses with which a run may end, and what each of them takes.
-use Rattle.std.proofs.Common.{◌≡◌, sym, subst, refl, ℕ, ◌+◌, Bool, true, Result, Ok, Err, inl, inr, arith, ⊤}
+use Rattle.std.proofs.Common.{◌≡◌, sym, subst, refl, ℕ, ◌+◌, Bool, true, Result, Ok, Err, inl, inr, arith}
 use Rattle.wb_outer.specs.Door.{DoorTold}
 use Rattle.wb_outer.specs.Faults.{Rose}
 use Rattle.wb_outer.specs.Keeper.{KeeperTold}
@@ -27,19 +27,19 @@ use Rattle.wb_program.proofs.CausedAnswers.{FateCaused}
 
 -- a fault of the shelf wants a call that failed, that of another object a rise of its count
 abbrev pub IsEnd : Bool → Status → Outside → Outside → Type 0
-IsEnd failed Done old new = ⊤
-IsEnd failed Problems old new = ⊤
-IsEnd failed BadWords old new = ⊤
+IsEnd failed Done old new = Unit {0}
+IsEnd failed Problems old new = Unit {0}
+IsEnd failed BadWords old new = Unit {0}
 IsEnd failed ShelfFault old new = failed ≡ true
-IsEnd failed BadInput old new = ⊤
-IsEnd failed TooLarge old new = ⊤
+IsEnd failed BadInput old new = Unit {0}
+IsEnd failed TooLarge old new = Unit {0}
 IsEnd failed SinkFault old new = Rose old.sink.faults new.sink.faults
 IsEnd failed KeeperFault old new = Rose old.keeper.faults new.keeper.faults
-IsEnd failed BadStore old new = ⊤
+IsEnd failed BadStore old new = Unit {0}
 IsEnd failed DoorFault old new = Rose old.door.faults new.door.faults
-IsEnd failed TurnsSpent old new = ⊤
+IsEnd failed TurnsSpent old new = Unit {0}
 IsEnd failed NoMemory old new = ⊥
-IsEnd failed NotBuilt old new = ⊤
+IsEnd failed NotBuilt old new = Unit {0}
 
 caused_ends : (failed : Bool) (status : Status) (old new : Outside) → IsCaused failed status → IsEnd failed status old new
 caused_ends failed Done old new h = tt

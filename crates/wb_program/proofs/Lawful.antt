@@ -33,7 +33,7 @@ use Rattle.wb_session.specs.Opening.{root_element}
 use Rattle.wb_program.specs.Opening.{metamodel_under, viewpoint_under, model_under, picture_from, checked_under, checking, drawing, printed, served_from, serving, task_course, course_for, course_of}
 use Rattle.wb_program.proofs.CausedAnswers.{AnyValue, AnswerCaused, FateCaused, IsPrinting, causes_printed, fates_known, prints_known, causes_then, causes_taken, causes_or_refused, causes_or_else, not_built_caused, usage_caused, no_root_caused}
 use Rattle.wb_program.proofs.AskedNames.{turns_then}
-use Rattle.wb_program.proofs.Endings.{decided, decided_at_once, undecided_at_once}
+use Rattle.wb_program.proofs.Endings.{decided, decided_usage}
 
 -- ---- a file that is read
 
@@ -247,10 +247,7 @@ pub decided_none : (E : Type 0) (due : Option Task) (answer : Answer) (told : Sh
     → None ≡ due → answer ≡ usage → IsDecision {E = E} (Ok (Prints answer)) (course_for due) told told
 decided_none E due answer told is h =
     subst (λ (t : Option Task). IsDecision {E = E} (Ok (Prints answer)) (course_for t) told told) is
-    (subst (λ (a : Answer). IsDecision {E = E} (Ok (Prints a)) (stops usage) told told) (sym h) (decided_at_once E usage told))
-
-pub undecided_none : {E : Type 0} (due : Option Task) (e : E) (told : ShelfTold) → None ≡ due → IsDecision (Err e) (course_for due) told told
-undecided_none {E} due e told is = subst (λ (t : Option Task). IsDecision {E = E} (Err e) (course_for t) told told) is (undecided_at_once e usage told)
+    (decided_usage E answer told h)
 
 -- what a run decides on for words that are texts, and for others
 pub decided_texts : {E : Type 0} (words texts : List (List ℕ)) (result : Result Fate E) (old new : ShelfTold)

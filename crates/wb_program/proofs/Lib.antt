@@ -9,6 +9,7 @@ pub mod Lawful
 pub mod Numerals
 pub mod OverFiles
 pub mod Problems
+pub mod Servers
 pub mod StepLemmas
 pub mod Taken
 pub mod Texts

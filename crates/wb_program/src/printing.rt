@@ -1,4 +1,5 @@
 //! What is printed, each in one write.
+ghost use Rattle.std.specs.Prelude.{◌≡◌};
 ghost use Rattle.wb_program.specs.Printing.{IsPrinted};
 ghost use Rattle.wb_program.specs.Serving.{connections_spent, door_fault, keeper_fault};
 
