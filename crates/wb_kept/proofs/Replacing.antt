@@ -1,5 +1,5 @@
 -- Rows that are replaced by others.
-use Rattle.std.proofs.Common.{◌≡◌, ◌∙◌, ◌<◌, ◌||◌, ◌&&◌, ℕ, Bool, true, false, not, nat_eq, cond, List, [], ◌∷◌, ◌++◌, filter, get_or, length, map, refl, sym, ap, subst, arith}
+use Rattle.std.proofs.Common.{◌≡◌, ◌∙◌, ◌||◌, ◌&&◌, Bool, true, false, not, nat_eq, cond, List, [], ◌∷◌, ◌++◌, filter, get_or, length, map, refl, ap, arith}
 use Rattle.std.specs.List.{list_all, list_any, zip}
 use Rattle.std.specs.Cmp.Lexicographic.{pointwise}
 use Rattle.std.proofs.lemmas.Bool.{and_from, and_parts}

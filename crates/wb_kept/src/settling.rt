@@ -45,10 +45,7 @@ fn are_same(loaded: &[Row], rows: &[Row]) -> bool
 fn are_alike(loaded: &[Row], rows: &[Row]) -> bool
     ensures { result ≡ list_all (λ p. pointwise nat_eq p.0.key p.1.key && pointwise nat_eq p.0.text p.1.text) (zip loaded.now rows.now) }
 {
-    loaded
-        .iter()
-        .zip(rows)
-        .all(|(one, other)| one.key == other.key && one.text == other.text)
+    loaded.iter().zip(rows).all(|(one, other)| one.key == other.key && one.text == other.text)
 }
 
 // The changes that erase all loaded rows and put these.
