@@ -3,3 +3,4 @@ pub mod Replies
 pub mod Keeping
 pub mod Settling
 pub mod Starting
+pub mod Opening

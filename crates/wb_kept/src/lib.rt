@@ -5,6 +5,7 @@ mod commanding;
 mod elements;
 mod kept_session;
 mod machine;
+mod opening;
 mod preparing;
 mod refusal;
 mod replying;
