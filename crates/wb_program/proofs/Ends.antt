@@ -11,8 +11,8 @@ use Rattle.wb_serving.specs.Machines.{Law, MachineTold}
 use Rattle.wb_serving.specs.Runs.{Serves as ServesDoor, faults_of}
 use Rattle.wb_serving.specs.declared.ends.Ended.{Ended}
 use Rattle.wb_serving.specs.declared.ends.Ended.TheVariants.{Closed, Stopped, Fault, Spent}
-use Rattle.wb_kept.specs.declared.opening.StartRefusal.{StartRefusal}
-use Rattle.wb_kept.specs.declared.opening.StartRefusal.TheVariants as start
+use Rattle.wb_kept.specs.declared.refusal.StartRefusal.{StartRefusal}
+use Rattle.wb_kept.specs.declared.refusal.StartRefusal.TheVariants as start
 use Rattle.wb_program.specs.declared.status.Status.{Status}
 use Rattle.wb_program.specs.declared.status.Status.TheVariants.{Done, Problems, BadWords, ShelfFault, BadInput, TooLarge, SinkFault, KeeperFault, BadStore, DoorFault, TurnsSpent, NoMemory, NotBuilt}
 use Rattle.wb_program.specs.declared.answer.Answer.{Answer}

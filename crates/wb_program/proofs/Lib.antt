@@ -9,6 +9,7 @@ pub mod Lawful
 pub mod Numerals
 pub mod OverFiles
 pub mod Problems
+pub mod Served
 pub mod Servers
 pub mod StepLemmas
 pub mod Taken

@@ -16,8 +16,8 @@ use Rattle.wb_serving.specs.declared.ends.Ended.TheVariants as ended
 use Rattle.wb_kept.specs.Keeping.{told_with}
 use Rattle.wb_kept.specs.Opening.{Opens}
 use Rattle.wb_kept.specs.Replies.{law}
-use Rattle.wb_kept.specs.declared.opening.StartRefusal.{StartRefusal}
-use Rattle.wb_kept.specs.declared.opening.StartRefusal.TheVariants as start
+use Rattle.wb_kept.specs.declared.refusal.StartRefusal.{StartRefusal}
+use Rattle.wb_kept.specs.declared.refusal.StartRefusal.TheVariants as start
 use Rattle.wb_program.specs.declared.answer.Answer.{Answer}
 use Rattle.wb_program.specs.declared.status.Status.{Status}
 use Rattle.wb_program.specs.declared.status.Status.TheVariants.{Done, KeeperFault, BadStore, DoorFault, TurnsSpent}

@@ -1,7 +1,7 @@
 //! Serving: a session is opened over the keeper, and then the connections of the door are served.
 ghost use Rattle.std.specs.Prelude.{◌≡◌, IfOk, OnErr};
 ghost use Rattle.wb_program.specs.Serving.{CanServe, Ends, IsQuiet, IsServed, RefusesBy, ServesFrom, ServesSession, bad_store, outside};
-ghost use Rattle.wb_kept.specs.declared.opening.StartRefusal.TheVariants.{NoRoot};
+ghost use Rattle.wb_kept.specs.declared.refusal.StartRefusal.TheVariants.{NoRoot};
 ghost use Rattle.wb_program.specs.Printing.{IsPrinted};
 ghost use Rattle.wb_program.specs.declared.status.Status.TheVariants.{NoMemory};
 
@@ -72,7 +72,23 @@ fn serve_lent<D: Door, K: Keeper, L>(
         keeper,
         steps,
     };
-    serve(alloc, door, &mut server, connections)
+    serve_on(alloc, &mut server, connections, door)
+}
+
+// The same with the server at hand, which keeps what is lent to it.
+fn serve_on<D: Door, K: Keeper, L>(
+    alloc: Global,
+    server: &mut Server<'_, Steps<L>, K>,
+    connections: u32,
+    door: &mut D,
+) -> Result<Ended, AllocError>
+    ensures served { IfOk result (ServesSession server.old.kept.now server.new.kept.now connections (D.told door.old) (D.told door.new) (K.told server.old.keeper.now) (K.told server.new.keeper.now)) }
+    ensures door { OnErr result (D.told door.new ≡ D.told door.old) }
+    ensures same_kept { server.new.kept.ghost_name ≡ server.old.kept.ghost_name }
+    ensures same_keeper { server.new.keeper.ghost_name ≡ server.old.keeper.ghost_name }
+    ensures same_steps { server.new.steps.ghost_name ≡ server.old.steps.ghost_name }
+{
+    serve(alloc, door, server, connections)
 }
 
 fn print_end<O: Sink>(ended: Ended, out: &mut O) -> Status
