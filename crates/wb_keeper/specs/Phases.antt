@@ -54,14 +54,14 @@ pub record HasTooMany (rows : List Row) : Type 0 where
   pub many : 20000 < length numbers
 
 -- the row is exactly what is written of something
-pub data IsRight (spec : Specification) (mm : Metamodel) (rows : List Row) : (key text : List ℕ) → Type 0 where
-  version : IsRight spec mm rows version_row.key version_row.text
-  names : IsRight spec mm rows (spec_row mm spec.0).key (spec_row mm spec.0).text
-  root : {text : List ℕ} (n : ℕ) → IsNumber last_id text n → IsRight spec mm rows (codes "root") text
-  next : {text : List ℕ} (n : ℕ) → IsNumber last_id text n → IsRight spec mm rows (codes "next") text
-  revision : {text : List ℕ} (n : ℕ) → IsNumber last_revision text n → IsRight spec mm rows (codes "revision") text
-  roots : {text : List ℕ} (os : List ℕ) → AreRoots text os → ¬ (HasTooMany rows) → IsRight spec mm rows (codes "roots") text
-  other : {key text : List ℕ} (item : Item) → Says spec mm (row key text) item → IsRight spec mm rows key text
+pub data IsRight (spec : Specification) (mm : Metamodel) (rows : List Row) (key text : List ℕ) : Type 0 where
+  version : key ≡ version_row.key → text ≡ version_row.text → IsRight spec mm rows key text
+  names : key ≡ (spec_row mm spec.0).key → text ≡ (spec_row mm spec.0).text → IsRight spec mm rows key text
+  root : key ≡ codes "root" → (n : ℕ) → IsNumber last_id text n → IsRight spec mm rows key text
+  next : key ≡ codes "next" → (n : ℕ) → IsNumber last_id text n → IsRight spec mm rows key text
+  revision : key ≡ codes "revision" → (n : ℕ) → IsNumber last_revision text n → IsRight spec mm rows key text
+  roots : key ≡ codes "roots" → (os : List ℕ) → AreRoots text os → ¬ (HasTooMany rows) → IsRight spec mm rows key text
+  other : (item : Item) → Says spec mm (row key text) item → IsRight spec mm rows key text
 
 -- the key stands once, and its row is right
 abbrev pub StandsRight : Specification → Metamodel → List Row → (key : List ℕ) → Type 0

@@ -1,6 +1,7 @@
 //! Readers of kept rows, one for each sort of row.
 #![tactic(auto)]
 
+mod arranging;
 mod heads;
 mod item_reading;
 mod items;
