@@ -1,5 +1,6 @@
 -- The rows whose keys are no heads, in the order of their keys.
-use Rattle.std.specs.Prelude.{◌≡◌, ℕ, ◌<◌, ◌^◌, ◌++◌, Bool, true, false, nat_eq, not, All, List, map, filter, take, length, Some, codes, decimal, slice_index_or}
+use Rattle.std.specs.Borrow.{Bor}
+use Rattle.std.specs.Prelude.{⊤, ◌≡◌, ℕ, ◌<◌, ◌^◌, ◌++◌, Bool, true, false, nat_eq, not, All, List, map, filter, take, length, Some, codes, decimal, slice_index_or}
 use Rattle.std.specs.List.{IsDistinct, list_any}
 use Rattle.std.specs.List.Sorted.{IsPermutation, IsSortedBy}
 use Rattle.std.specs.Ordering.{is_lt}
