@@ -2,12 +2,16 @@
 #![tactic(auto)]
 
 mod arranging;
+mod counting;
+mod head_rows;
 mod heads;
 mod item_reading;
 mod items;
 mod keys;
 mod numbers;
 mod objects;
+mod other_rows;
+mod phases;
 mod positions;
 mod refusal;
 mod roots;
