@@ -1,2 +1,4 @@
+pub mod EachOnce
+pub mod FirstWrong
 pub mod Places
 pub mod RootTexts
