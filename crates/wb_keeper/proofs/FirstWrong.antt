@@ -1,6 +1,6 @@
 -- The first wrong key.
-use Rattle.std.proofs.Common.{◌≡◌, ◌<◌, ◌≤◌, ◌⊎◌, inl, inr, ℕ, zero, suc, Bool, true, false, not, cond, ◌||◌, List, [], ◌∷◌, length, get_or, map, filter, nat_eq, nat_lt, refl, sym, ap, subst, ◌∙◌, arith, ⊤}
-use Rattle.std.specs.Prelude.{◌++◌, codes, decimal}
+use Rattle.std.proofs.Common.{◌≡◌, ◌<◌, ◌≤◌, ◌⊎◌, inl, inr, ℕ, zero, suc, Bool, true, false, not, cond, ◌||◌, List, [], ◌∷◌, length, get_or, map, filter, nat_eq, nat_lt, refl, sym, ap, subst, ◌∙◌, arith}
+use Rattle.std.specs.Prelude.{⊤, ◌++◌, codes, decimal}
 use Rattle.std.proofs.lemmas.List.Elements.{All-cons, All-nil}
 use Rattle.std.specs.List.{All, list_any, position_or_len}
 use Rattle.std.specs.List.Sorted.{IsSortedBy}
@@ -11,12 +11,20 @@ use Rattle.std.proofs.lemmas.List.Sorted.{All-permutation, ranks_by, sorted_far}
 use Rattle.wb_outer.specs.declared.keeper.Row.{Row}
 use Rattle.wb_metamodel.specs.Metamodel.{Metamodel}
 use Rattle.wb_spec_check.specs.Checked.{Specification}
+use Rattle.wb_rows.specs.Rows.{spec_row, version_row}
 use Rattle.wb_rows.specs.Texts.{key_cmp, row}
 use Rattle.wb_rows.proofs.Orders.{key_total, same_text, same_text_is}
-use Rattle.wb_keeper.specs.Alone.{AreHeads, IsNoItem, StandsAsItem}
-use Rattle.wb_keeper.specs.Arranged.{IsArranged, comes_first, others_of}
+use Rattle.wb_keeper.specs.Alone.{AreHeads, IsFirstAt, IsFirstNoItem, IsNoItem, StandsAs, StandsAsItem}
+use Rattle.wb_keeper.specs.Arranged.{IsArranged, IsAt, IsWrongAt, comes_first, others_of}
 use Rattle.wb_keeper.specs.Phases.{HasTooMany, IsFirstWrong, IsLookedAt, IsRight, StandsRight, comes_before, has_key, head_keys, is_head, place, same, texts_at}
-use Rattle.wb_keeper.specs.Phases.IsRight as right
+use Rattle.wb_keeper.specs.Phases as right
+use Rattle.wb_keeper.specs.Heads.{IsNumber, last_id, last_revision}
+use Rattle.wb_keeper.specs.Items.{Says}
+use Rattle.wb_keeper.specs.declared.head_rows.Heads.{Heads}
+use Rattle.wb_keeper.specs.declared.items.Item.{Item}
+use Rattle.wb_keeper.specs.declared.items.Item.TheVariants.{Object, Placed, Shown, Hidden, Layer, Filter}
+use Rattle.wb_keeper.specs.declared.refusal.StoreRefusal.{StoreRefusal}
+use Rattle.wb_keeper.specs.declared.refusal.StoreRefusal.TheVariants.{At, NoMemory}
 
 -- ---- places among keys
 
@@ -79,8 +87,8 @@ not_below_itself key = not_less (is_lt (key_cmp key key)) refl
     not_less false e = refl
 
 earlier_at : (a b : ℕ) (below t : Bool) → nat_eq a b ≡ t → (a ≡ b → below ≡ false) → cond t below (nat_lt a b) ≡ true → a < b
-earlier_at a b below true is no e = let none = no (eqb-true a b is) in absurd cc
-earlier_at a b below false is no e = grind (arith, nat_tests)
+earlier_at a b below true is differ e = let none = differ (eqb-true a b is) in absurd cc
+earlier_at a b below false is differ e = grind (arith, nat_tests)
 
 -- what comes before a head has a place before it
 earlier : (key other : List ℕ) → is_head key ≡ true → comes_before other key ≡ true → place other < place key
@@ -98,7 +106,7 @@ lower_at a b below is e = same_at (nat_eq a b) (eq-eqb a b is) e
 
 -- what comes before another key, and is no head, has a lower key
 lower : (key other : List ℕ) → is_head key ≡ false → is_head other ≡ false → comes_before other key ≡ true → is_lt (key_cmp other key) ≡ true
-lower key other none no e = lower_at (place other) (place key) (is_lt (key_cmp other key)) (no_place other head_keys no ∙ sym (no_place key head_keys none)) e
+lower key other none none_too e = lower_at (place other) (place key) (is_lt (key_cmp other key)) (no_place other head_keys none_too ∙ sym (no_place key head_keys none)) e
 
 module _ (spec : Specification) (mm : Metamodel) (rows : List Row) where
   -- a wrong head is the first wrong key if the heads before it stand right
@@ -206,7 +214,7 @@ module _ (rows sorted : List Row) (arranged : IsArranged rows sorted) where
 
   module _ (spec : Specification) (mm : Metamodel) where
     item_right : (key : List ℕ) → is_head key ≡ false → StandsAsItem spec mm sorted key → StandsRight spec mm rows key
-    item_right key none stands = (stands.0, (arranged.texts key none ∙ stands.1.0, right.other stands.1.1.0 stands.1.1.1))
+    item_right key none stands = (stands.0, arranged.texts key none ∙ stands.1, right.other stands.2.0 stands.2.1)
 
     is_item : (key text : List ℕ) → is_head key ≡ false → texts_at sorted key ≡ text ∷ [] → IsRight spec mm rows key text → StandsAsItem spec mm sorted key
     is_item key text none at (right.version k t) = absurd (let e = ap is_head k in cc)
@@ -215,32 +223,32 @@ module _ (rows sorted : List Row) (arranged : IsArranged rows sorted) where
     is_item key text none at (right.next k n t) = absurd (let e = ap is_head k in cc)
     is_item key text none at (right.revision k n t) = absurd (let e = ap is_head k in cc)
     is_item key text none at (right.roots k os t few) = absurd (let e = ap is_head k in cc)
-    is_item key text none at (right.other item says) = (text, (at, (item, says)))
+    is_item key text none at (right.other item says) = (text, at, (item, says))
 
     right_item : (key : List ℕ) → is_head key ≡ false → StandsRight spec mm rows key → StandsAsItem spec mm sorted key
-    right_item key none stands = is_item key stands.0 none (sym (arranged.texts key none) ∙ stands.1.0) stands.1.1
+    right_item key none stands = is_item key stands.0 none (sym (arranged.texts key none) ∙ stands.1) stands.2
 
-    module _ (key : List ℕ) (no : IsNoItem spec mm sorted key) where
+    module _ (key : List ℕ) (not_said : IsNoItem spec mm sorted key) where
       abbrev none_such : Row
       none_such = row [] []
 
-      key_at : key ≡ (get_or sorted no.place none_such).key
-      key_at = no.is none_such
+      key_at : key ≡ (get_or sorted not_said.place none_such).key
+      key_at = not_said.is none_such
 
       key_other : is_head key ≡ false
-      key_other = ap is_head key_at ∙ is_other no.place none_such no.within
+      key_other = ap is_head key_at ∙ is_other not_said.place none_such not_said.within
 
       key_has : has_key rows key ≡ true
-      key_has = same_keys key key_other ∙ ap (has_key sorted) key_at ∙ has_at sorted no.place none_such no.within
+      key_has = same_keys key key_other ∙ ap (has_key sorted) key_at ∙ has_at sorted not_said.place none_such not_said.within
 
-      place_before : (j : ℕ) → j < length sorted → is_lt (key_cmp (get_or sorted j none_such).key key) ≡ true → j < no.place
-      place_before j lt low = decided (nat_lt j no.place) refl
+      place_before : (j : ℕ) → j < length sorted → is_lt (key_cmp (get_or sorted j none_such).key key) ≡ true → j < not_said.place
+      place_before j lt low = decided (nat_lt j not_said.place) refl
         where
-          decided : (b : Bool) → nat_lt j no.place ≡ b → j < no.place
+          decided : (b : Bool) → nat_lt j not_said.place ≡ b → j < not_said.place
           decided true is = grind (arith, nat_tests)
           decided false is =
-              let over : no.place ≤ j = grind (arith, nat_tests) in
-              let far : is_lt (key_cmp (get_or sorted j none_such).key (get_or sorted no.place none_such).key) ≡ false = sorted_far comes_first (ranks_by key_total (λ (r : Row). r.key)) sorted arranged.rise no.place j none_such over lt in
+              let over : not_said.place ≤ j = grind (arith, nat_tests) in
+              let far : is_lt (key_cmp (get_or sorted j none_such).key (get_or sorted not_said.place none_such).key) ≡ false = sorted_far comes_first (ranks_by key_total (λ (r : Row). r.key)) sorted arranged.rise not_said.place j none_such over lt in
               let there : is_lt (key_cmp (get_or sorted j none_such).key key) ≡ false = ap (λ (k : List ℕ). is_lt (key_cmp (get_or sorted j none_such).key k)) key_at ∙ far in
               absurd cc
 
@@ -248,8 +256,65 @@ module _ (rows sorted : List Row) (arranged : IsArranged rows sorted) where
       lower_right other none has low =
           let at = at_has sorted other (sym (same_keys other none) ∙ has) in
           let there : (get_or sorted at.place none_such).key ≡ other = at.is none_such in
-          let before_it : at.place < no.place = place_before at.place at.within (ap (λ (k : List ℕ). is_lt (key_cmp k key)) there ∙ low) in
-          item_right other none (subst (StandsAsItem spec mm sorted) there (no.before at.place none_such before_it))
+          let before_it : at.place < not_said.place = place_before at.place at.within (ap (λ (k : List ℕ). is_lt (key_cmp k key)) there ∙ low) in
+          item_right other none (subst (StandsAsItem spec mm sorted) there (not_said.before at.place none_such before_it))
 
       pub first_item : AllOf (StandsRight spec mm rows) head_keys → IsFirstWrong spec mm rows key
-      first_item heads = first_other spec mm rows key key_other key_has heads lower_right (λ stands. no.wrong (right_item key key_other stands))
+      first_item heads = first_other spec mm rows key key_other key_has heads lower_right (λ stands. not_said.wrong (right_item key key_other stands))
+
+-- ---- refusals
+
+pub wrong_of : (spec : Specification) (mm : Metamodel) (rows : List Row) (key : List ℕ) (e : StoreRefusal) → IsAt key e → ¬ (StandsRight spec mm rows key) → IsWrongAt spec mm rows key e
+wrong_of spec mm rows key (At k) at wrong = (at, wrong)
+wrong_of spec mm rows key NoMemory at wrong = tt
+
+module _ (spec : Specification) (mm : Metamodel) (rows : List Row) where
+  pub first_head_at : (key : List ℕ) (e : StoreRefusal) → is_head key ≡ true → AllOf (StandsRight spec mm rows) (before key head_keys) → IsWrongAt spec mm rows key e → IsFirstAt spec mm rows e
+  first_head_at key (At k) head all wrong = subst (IsFirstWrong spec mm rows) (sym wrong.0) (first_head spec mm rows key head all wrong.1)
+  first_head_at key NoMemory head all wrong = tt
+
+  no_item : (text : List ℕ) (item : Item) → ¬ (Says spec mm (row (codes "roots") text) item)
+  no_item text (Object o it) says = let k = says.1 in absurd cc
+  no_item text (Placed key at) says = let k = ap (λ (r : Row). r.key) says.2 in absurd cc
+  no_item text (Shown key) says = let k = ap (λ (r : Row). r.key) says.1 in absurd cc
+  no_item text (Hidden key) says = let k = ap (λ (r : Row). r.key) says.1 in absurd cc
+  no_item text (Layer n) says = let k = ap (λ (r : Row). r.key) says.2 in absurd cc
+  no_item text (Filter n) says = let k = ap (λ (r : Row). r.key) says.2 in absurd cc
+
+  few_of : (text : List ℕ) → IsRight spec mm rows (codes "roots") text → ¬ (HasTooMany rows)
+  few_of text (right.version k t) = absurd cc
+  few_of text (right.names k t) = absurd cc
+  few_of text (right.root k n t) = absurd cc
+  few_of text (right.next k n t) = absurd cc
+  few_of text (right.revision k n t) = absurd cc
+  few_of text (right.roots k os t few) = few
+  few_of text (right.other item says) = absurd (no_item text item says)
+
+  pub too_many_wrong : HasTooMany rows → ¬ (StandsRight spec mm rows (codes "roots"))
+  too_many_wrong many stands = few_of stands.0 stands.2 many
+
+  -- ---- heads that stand right
+
+  pub version_right : texts_at rows version_row.key ≡ version_row.text ∷ [] → StandsRight spec mm rows (codes "version")
+  version_right at = (version_row.text, at, right.version refl refl)
+
+  pub names_right : texts_at rows (spec_row mm spec.0).key ≡ (spec_row mm spec.0).text ∷ [] → StandsRight spec mm rows (codes "spec")
+  names_right at = ((spec_row mm spec.0).text, at, right.names refl refl)
+
+  pub root_right : (n : ℕ) → StandsAs rows (codes "root") (λ text. IsNumber last_id text n) → StandsRight spec mm rows (codes "root")
+  root_right n at = (at.0, at.1, right.root refl n at.2)
+
+  pub next_right : (n : ℕ) → StandsAs rows (codes "next") (λ text. IsNumber last_id text n) → StandsRight spec mm rows (codes "next")
+  next_right n at = (at.0, at.1, right.next refl n at.2)
+
+  pub revision_right : (n : ℕ) → StandsAs rows (codes "revision") (λ text. IsNumber last_revision text n) → StandsRight spec mm rows (codes "revision")
+  revision_right n at = (at.0, at.1, right.revision refl n at.2)
+
+  pub heads_right : (heads : Heads) → AreHeads spec mm rows heads → AllOf (StandsRight spec mm rows) head_keys
+  heads_right heads are =
+      (version_right are.version, names_right are.names, root_right heads.root are.root, next_right heads.next are.next,
+      revision_right heads.revision are.revision, (are.roots.0, are.roots.1, right.roots refl heads.roots are.roots.2 are.few), tt)
+
+  pub first_item_at : (sorted : List Row) (heads : Heads) (e : StoreRefusal) → IsArranged rows sorted → AreHeads spec mm rows heads → IsFirstNoItem spec mm sorted e → IsFirstAt spec mm rows e
+  first_item_at sorted heads (At key) arranged are not_said = first_item rows sorted arranged spec mm key not_said (heads_right heads are)
+  first_item_at sorted heads NoMemory arranged are not_said = tt
