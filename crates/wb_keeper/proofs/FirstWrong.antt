@@ -1,6 +1,6 @@
 -- The first wrong key.
 use Rattle.std.proofs.Common.{◌≡◌, ◌<◌, ◌≤◌, ◌⊎◌, inl, inr, ℕ, zero, suc, Bool, true, false, not, cond, ◌||◌, List, [], ◌∷◌, length, get_or, map, filter, nat_eq, nat_lt, refl, sym, ap, subst, ◌∙◌, arith}
-use Rattle.std.specs.Prelude.{⊤, ◌++◌, codes, decimal}
+use Rattle.std.specs.Prelude.{⊤, ◌+◌, ◌++◌, codes, decimal}
 use Rattle.std.proofs.lemmas.List.Elements.{All-cons, All-nil}
 use Rattle.std.specs.List.{All, list_any, position_or_len}
 use Rattle.std.specs.List.Sorted.{IsSortedBy}
@@ -11,6 +11,7 @@ use Rattle.std.proofs.lemmas.List.Sorted.{All-permutation, ranks_by, sorted_far}
 use Rattle.wb_outer.specs.declared.keeper.Row.{Row}
 use Rattle.wb_metamodel.specs.Metamodel.{Metamodel}
 use Rattle.wb_spec_check.specs.Checked.{Specification}
+use Rattle.wb_diagram.specs.Keys.{any_key_text, key_text}
 use Rattle.wb_rows.specs.Rows.{spec_row, version_row}
 use Rattle.wb_rows.specs.Texts.{key_cmp, row}
 use Rattle.wb_rows.proofs.Orders.{key_total, same_text, same_text_is}
@@ -136,7 +137,7 @@ module _ (spec : Specification) (mm : Metamodel) (rows : List Row) where
 
 -- ---- the keys that stand
 
-is_filled : List (List ℕ) → Bool
+abbrev is_filled : List (List ℕ) → Bool
 is_filled [] = false
 is_filled (text ∷ texts) = true
 
@@ -264,6 +265,9 @@ module _ (rows sorted : List Row) (arranged : IsArranged rows sorted) where
 
 -- ---- refusals
 
+clash : (a b : List ℕ) → is_head a ≡ true → is_head b ≡ false → ¬ (a ≡ b)
+clash a b head none e = absurd (let same_test = ap is_head e in cc)
+
 pub wrong_of : (spec : Specification) (mm : Metamodel) (rows : List Row) (key : List ℕ) (e : StoreRefusal) → IsAt key e → ¬ (StandsRight spec mm rows key) → IsWrongAt spec mm rows key e
 wrong_of spec mm rows key (At k) at wrong = (at, wrong)
 wrong_of spec mm rows key NoMemory at wrong = tt
@@ -274,12 +278,12 @@ module _ (spec : Specification) (mm : Metamodel) (rows : List Row) where
   first_head_at key NoMemory head all wrong = tt
 
   no_item : (text : List ℕ) (item : Item) → ¬ (Says spec mm (row (codes "roots") text) item)
-  no_item text (Object o it) says = let k = says.1 in absurd cc
-  no_item text (Placed key at) says = let k = ap (λ (r : Row). r.key) says.2 in absurd cc
-  no_item text (Shown key) says = let k = ap (λ (r : Row). r.key) says.1 in absurd cc
-  no_item text (Hidden key) says = let k = ap (λ (r : Row). r.key) says.1 in absurd cc
-  no_item text (Layer n) says = let k = ap (λ (r : Row). r.key) says.2 in absurd cc
-  no_item text (Filter n) says = let k = ap (λ (r : Row). r.key) says.2 in absurd cc
+  no_item text (Object o it) says = clash (codes "roots") (codes "o/" ++ says.0) refl refl says.1
+  no_item text (Placed key at) says = clash (codes "roots") (codes "p/" ++ key_text key) refl refl (ap (λ (r : Row). r.key) says.2)
+  no_item text (Shown key) says = clash (codes "roots") (codes "s/" ++ key_text key) refl refl (ap (λ (r : Row). r.key) says.1)
+  no_item text (Hidden key) says = clash (codes "roots") (codes "h/" ++ any_key_text key) refl refl (ap (λ (r : Row). r.key) says.1)
+  no_item text (Layer n) says = clash (codes "roots") (codes "l/" ++ says.0) refl refl (ap (λ (r : Row). r.key) says.2)
+  no_item text (Filter n) says = clash (codes "roots") (codes "f/" ++ says.0) refl refl (ap (λ (r : Row). r.key) says.2)
 
   few_of : (text : List ℕ) → IsRight spec mm rows (codes "roots") text → ¬ (HasTooMany rows)
   few_of text (right.version k t) = absurd cc
@@ -312,8 +316,8 @@ module _ (spec : Specification) (mm : Metamodel) (rows : List Row) where
 
   pub heads_right : (heads : Heads) → AreHeads spec mm rows heads → AllOf (StandsRight spec mm rows) head_keys
   heads_right heads are =
-      (version_right are.version, names_right are.names, root_right heads.root are.root, next_right heads.next are.next,
-      revision_right heads.revision are.revision, (are.roots.0, are.roots.1, right.roots refl heads.roots are.roots.2 are.few), tt)
+      (version_right are.version, (names_right are.names, (root_right heads.root are.root, (next_right heads.next are.next,
+      (revision_right heads.revision are.revision, ((are.roots.0, are.roots.1, right.roots refl heads.roots are.roots.2 are.few), tt))))))
 
   pub first_item_at : (sorted : List Row) (heads : Heads) (e : StoreRefusal) → IsArranged rows sorted → AreHeads spec mm rows heads → IsFirstNoItem spec mm sorted e → IsFirstAt spec mm rows e
   first_item_at sorted heads (At key) arranged are not_said = first_item rows sorted arranged spec mm key not_said (heads_right heads are)

