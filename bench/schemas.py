@@ -1,18 +1,22 @@
 #!/usr/bin/env python3
-"""Holds files, bodies of commands and pictures against the schemas of `schemas/`.
+"""Holds files, bodies of commands, pictures and replies against the schemas of `schemas/` and against `docs/openapi.json`.
 
-    python3 bench/schemas.py [PROGRAM]
+    python3 bench/schemas.py [PROGRAM] [--server]
 
-PROGRAM is the built program, which then draws the examples; without it they are drawn by `expected/diagrams.py`. Needs `python3-jsonschema`;
-without it nothing is compared, and that is said. What should meet a schema has to, and what is spoiled has not to.
+PROGRAM is the built program, which then draws the examples; without it they are drawn by `expected/diagrams.py`. With `--server` the replies of
+a server that runs at 127.0.0.1:7878 are looked at too; two of the requests change something, which is said. Needs `python3-jsonschema`, and
+`python3-openapi-spec-validator` for the text of the interface itself; what is left out without them is said. What should meet a schema
+has to, and what is spoiled has not to.
 """
-import glob, json, os, re, subprocess, sys
+import glob, json, os, pathlib, re, subprocess, sys
 
+import openapi
 from costs import TOP
 
 sys.path.insert(0, os.path.join(TOP, "expected"))
 import commands, diagrams, plain_files
 
+BASE = pathlib.Path(TOP).as_uri() + "/"
 SORTS = ("metamodel", "viewpoint", "model", "command", "diagram")
 # files of cases that are wrong in their form
 WRONG = {"list.metamodel.json", "library-257-mappings.viewpoint.json"}
@@ -45,39 +49,51 @@ def validator_class(jsonschema):
     return jsonschema.validators.extend(plain, {"pattern": pattern}, type_checker=integers)
 
 
-def validators(jsonschema, schemas):
-    """By its name a validator of each schema, which finds the others by their names."""
+def validator_maker(jsonschema, documents):
+    """Makes the validator of a place in one of the documents, which refer to each other by their places. Their `$schema` would have
+    another class of validators taken."""
     made = validator_class(jsonschema)
+    documents = {BASE + name: {member: part for member, part in document.items() if member != "$schema"} for name, document in documents.items()}
     try:
-        from referencing import Registry, Resource
-        registry = Registry().with_resources((name, Resource.from_contents(schema)) for name, schema in schemas.items())
-        return {name: made(schema, registry=registry) for name, schema in schemas.items()}
+        from referencing import Registry
+        from referencing.jsonschema import DRAFT202012
+        registry = Registry().with_resources((name, DRAFT202012.create_resource(document)) for name, document in documents.items())
+        return lambda place: made({"$ref": BASE + place}, registry=registry)
     except ImportError:
-        return {name: made(schema, resolver=jsonschema.RefResolver(name, schema, store=schemas)) for name, schema in schemas.items()}
+        return lambda place: made({"$ref": BASE + place}, resolver=jsonschema.RefResolver(BASE, {}, store=documents))
 
 
 class Report:
     """Counts what was looked at, and tells what is not as it should be."""
 
     def __init__(self, jsonschema):
-        self.jsonschema, self.wrong = jsonschema, 0
-        schemas = {f"{sort}.json": json.loads(text_of("schemas", f"{sort}.json")) for sort in SORTS}
-        for schema in schemas.values():
+        self.jsonschema, self.wrong, self.validators = jsonschema, 0, {}
+        documents = {f"schemas/{sort}.json": json.loads(text_of("schemas", f"{sort}.json")) for sort in SORTS}
+        for schema in documents.values():
             jsonschema.Draft202012Validator.check_schema(schema)
-        self.validators = validators(jsonschema, schemas)
+        self.api = json.loads(text_of(openapi.NAME))
+        self.made = validator_maker(jsonschema, {**documents, openapi.NAME: self.api})
 
     def tell(self, text):
         self.wrong += 1
         print(f"WRONG: {text}")
 
+    def validator(self, place):
+        if place not in self.validators:
+            self.validators[place] = self.made(place)
+        return self.validators[place]
+
     def meets(self, sort, value):
-        return self.validators[f"{sort}.json"].is_valid(value)
+        return self.validator(f"schemas/{sort}.json").is_valid(value)
 
     def expect(self, sort, what, value):
-        """The value has to meet the schema."""
-        error = self.jsonschema.exceptions.best_match(self.validators[f"{sort}.json"].iter_errors(value))
+        return self.expect_at(f"schemas/{sort}.json", what, value)
+
+    def expect_at(self, place, what, value):
+        """The value has to meet the schema at a place."""
+        error = self.jsonschema.exceptions.best_match(self.validator(place).iter_errors(value))
         if error is not None:
-            self.tell(f"{what} does not meet {sort}.json at {error.json_path}: {error.message[:200]}")
+            self.tell(f"{what} does not meet {place} at {error.json_path}: {error.message[:200]}")
         return error is None
 
 
@@ -197,7 +213,8 @@ def check_drawn(report, program):
 
 
 def main():
-    program = sys.argv[1] if len(sys.argv) > 1 else None
+    words = [word for word in sys.argv[1:] if word != "--server"]
+    program = words[0] if words else None
     try:
         import jsonschema
     except ImportError:
@@ -209,6 +226,10 @@ def main():
     check_commands(report)
     check_printed(report)
     check_drawn(report, program)
+    openapi.check_text(report, report.api, os.path.join(TOP, openapi.NAME))
+    openapi.check_examples(report, report.api)
+    if "--server" in sys.argv:
+        openapi.check_server(report, report.api)
     print("all as it should be" if report.wrong == 0 else f"{report.wrong} wrong")
     sys.exit(1 if report.wrong else 0)
 
