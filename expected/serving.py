@@ -47,10 +47,12 @@ class Tally:
 
 
 class Fault(Exception):
-    """A call of the door failed."""
+    """A call failed."""
 
 
-class Door:
+class Calls:
+    """The calls of an object are counted from 0, and some of them fail."""
+
     def __init__(self, failing):
         self.calls, self.failing = 0, failing
 
@@ -109,7 +111,7 @@ def shown(replies):
 
 def run(name, lines, door=(), keeper=(), limit=100, last=()):
     tally, sent = Tally(keeper), [[] for _ in lines]
-    ended = serve(Door(door), tally, lines, limit, sent)
+    ended = serve(Calls(door), tally, lines, limit, sent)
     kept = [] if tally.row is None else [f"total: {tally.row}"]
     return [f"-- {name}", f"ended: {ended}", *map(shown, sent), *kept, *last]
 

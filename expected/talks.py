@@ -70,21 +70,29 @@ class Server:
 
     # ---- one connection
 
+    def turn(self, held, is_last):
+        """The reply to what these bytes begin with, how the connection ends with it (`closed` or `stopped`, or not), and the bytes behind it;
+        none where they are less than a request."""
+        found = requests.taken(held)
+        if found is None:
+            return None
+        if isinstance(found, str):
+            return reply(requests.STATUS[found], plain_models.written(refusal(found)), closes=True), "closed", b""
+        method, target, closes, body, rest = found
+        status, text, allow = self.answer(method, target, body)
+        stops = requests.route(method, target) == "stop"
+        closes = closes or stops or is_last
+        return reply(status, text, allow, closes), "stopped" if stops else "closed" if closes else None, rest
+
     def replies(self, held):
         """The replies on a connection, one by one, and how it ends: `closed`, or `stopped`; where it waits for more there is no end."""
-        for turn in range(1, MOST_REQUESTS + 1):
-            found = requests.taken(held)
+        for number in range(1, MOST_REQUESTS + 1):
+            found = self.turn(held, number == MOST_REQUESTS)
             if found is None:
                 return
-            if isinstance(found, str):
-                yield reply(requests.STATUS[found], plain_models.written(refusal(found)), closes=True), "closed"
-                return
-            method, target, closes, body, held = found
-            status, text, allow = self.answer(method, target, body)
-            stops = requests.route(method, target) == "stop"
-            closes = closes or stops or turn == MOST_REQUESTS
-            yield reply(status, text, allow, closes), "stopped" if stops else "closed" if closes else None
-            if closes:
+            text, end, held = found
+            yield text, end
+            if end:
                 return
 
     def connection(self, held):
