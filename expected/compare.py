@@ -4,11 +4,12 @@
     python3 expected/compare.py
 
 The words of such a program, in its `args`, are files in threes: a metamodel, a model, and a script of edits and looks or a file of
-expressions. Or they are `.json` files of cases, of sessions where a case has `steps`, else of the whole program; or a `.bodies` file of
-bodies of commands, or `.http` files of connections. One has no words. Its `stdout` is what the gate holds its output to.
+expressions. Or they are `.json` files of cases, of sessions where a case has `steps`, of a server where it has `lines` or `rows`, else of
+the whole program; or a `.bodies` file of bodies of commands, or `.http` files of connections. One has no words. Its `stdout` is what the gate
+holds its output to.
 """
 import glob, itertools, json, os, sys
-import commands, evaluations, models, program, requests, serving, sessions
+import commands, evaluations, models, program, requests, serve, serving, sessions
 
 TOP = os.path.dirname(os.path.dirname(os.path.abspath(__file__)))
 # Programs without words.
@@ -18,7 +19,8 @@ MAKERS = {".script": models.lines, ".expressions": evaluations.lines}
 
 def of_cases(path):
     """The lines for a file of cases."""
-    return (sessions if "steps" in json.loads(models.text_of(path))[0] else program).lines(path)
+    first = json.loads(models.text_of(path))[0]
+    return (sessions if "steps" in first else serve if "lines" in first or "rows" in first else program).lines(path)
 
 
 def made(folder, names):
