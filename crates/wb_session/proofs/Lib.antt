@@ -14,3 +14,4 @@ pub mod Stepping
 pub mod Taking
 pub mod Tooled
 pub mod Undoing
+pub mod WritableMarks

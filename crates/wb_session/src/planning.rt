@@ -1,4 +1,5 @@
 ghost use Rattle.std.specs.Prelude.{IfOk};
+ghost use Rattle.wb_rows.specs.States.{CanBeWritten};
 ghost use Rattle.wb_session.specs.Answering.{Gives};
 ghost use Rattle.wb_session.specs.Planning.{Follows, stepped_to};
 ghost use Rattle.wb_session.specs.Steps.{step};
@@ -50,5 +51,13 @@ impl<E: Evaluator> Session<E> {
             turn: tried.turn,
             diagram,
         })
+    }
+
+    /// A law: what is marked or placed in what was planned has a key that can be written.
+    pub fn planned_can_be_written(&self, planned: &Planned<E>)
+        requires { Follows E.outcome_by self.now planned.now.model planned.now.marks planned.now.turn planned.now.diagram }
+        ensures { CanBeWritten planned.now.marks }
+    {
+        let _ = &planned.marks;
     }
 }

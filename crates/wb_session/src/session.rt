@@ -1,6 +1,7 @@
 ghost use Rattle.std.specs.Prelude.{◌≡◌, ◌+◌, ◌≤◌, length};
 ghost use Rattle.wb_declared.specs.Declarations.{declared_edges, declared_nodes};
 ghost use Rattle.wb_refresh.specs.Openings.{IsOpened, all_units};
+ghost use Rattle.wb_rows.specs.States.{CanBeWritten};
 ghost use Rattle.wb_session.specs.States.{IsGood, model_of, subject_of};
 
 use crate::entries::Entry;
@@ -58,6 +59,13 @@ impl<E: Evaluator> Session<E> {
     /// A law: every session is good.
     pub fn good(&self)
         ensures { IsGood E.outcome_by self.now }
+    {
+        let _ = &self.model;
+    }
+
+    /// A law: what is marked or placed has a key that can be written.
+    pub fn marks_can_be_written(&self)
+        ensures { CanBeWritten self.now.body.marks }
     {
         let _ = &self.model;
     }
