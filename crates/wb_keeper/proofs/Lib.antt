@@ -1,2 +1,4 @@
+pub mod Least
 pub mod Places
 pub mod RootTexts
+pub mod WrongMarks

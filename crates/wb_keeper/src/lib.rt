@@ -5,6 +5,7 @@ mod heads;
 mod item_reading;
 mod items;
 mod keys;
+mod misplacing;
 mod numbers;
 mod objects;
 mod positions;
@@ -13,4 +14,5 @@ mod roots;
 mod said;
 mod switches;
 
+pub use misplacing::misplaced;
 pub use refusal::StoreRefusal;

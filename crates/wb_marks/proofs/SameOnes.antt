@@ -48,7 +48,7 @@ pub declared_by : (nodes : List Key) (edges : List EdgeKey) (it : Declared) → 
 declared_by nodes edges it n e = (same_items node.eq-value.it same_key same_keys nodes it.nodes.keys n, same_items edge.eq-value.it same_edge same_edges edges it.edges.keys e)
 
 module _ (nodes : List Key) (edges : List EdgeKey) (it : Declared) (d : Declare nodes edges it) where
-  declared_alike : (key : AnyKey) → is_declared it.nodes.keys it.edges.keys key ≡ is_declared nodes edges key
+  pub declared_alike : (key : AnyKey) → is_declared it.nodes.keys it.edges.keys key ≡ is_declared nodes edges key
   declared_alike (Node key) = d.0 key
   declared_alike (Edge key) = d.1 key
 

@@ -12,3 +12,4 @@ mod switching;
 
 pub use laws::{marks_are_distinct, marks_settle};
 pub use marks::Marks;
+pub use settling::{Declared, is_declared, is_node, sets_of};

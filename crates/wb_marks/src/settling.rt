@@ -37,8 +37,9 @@ impl Marks {
     }
 }
 
+/// Sets of copies of these keys.
 #[tactic(auto, using(crate::proofs::SameOnes::declared_by))]
-fn sets_of(alloc: Global, nodes: &[Key], edges: &[EdgeKey]) -> Result<Declared, AllocError>
+pub fn sets_of(alloc: Global, nodes: &[Key], edges: &[EdgeKey]) -> Result<Declared, AllocError>
     ensures { IfOk result (λ it. Declare nodes.now edges.now it) }
 {
     Ok(Declared {
@@ -75,7 +76,8 @@ fn kept_keys(
     Ok(kept)
 }
 
-fn is_declared(declared: &Declared, key: &AnyKey) -> bool
+/// Is the key one of the elements' or edges'?
+pub fn is_declared(declared: &Declared, key: &AnyKey) -> bool
     ensures { result ≡ is_declared declared.now.nodes.keys declared.now.edges.keys key.now }
 {
     match key {
@@ -84,7 +86,8 @@ fn is_declared(declared: &Declared, key: &AnyKey) -> bool
     }
 }
 
-fn is_node(declared: &Declared, key: &Key) -> bool
+/// Is the key one of the elements'?
+pub fn is_node(declared: &Declared, key: &Key) -> bool
     ensures { result ≡ among declared.now.nodes.keys key.now }
 {
     declared.nodes.contains(key)

@@ -16,6 +16,6 @@ mod writing;
 pub use changing::changes;
 pub use heads::spec_text;
 pub use laws::rows_ascend;
-pub use spelling::{position_text, roots_text};
+pub use spelling::{any_key, element_key, position_text, roots_text};
 pub use state::{KeptState, StateParts};
 pub use writing::write_rows;

@@ -18,7 +18,7 @@ pub(crate) fn key_of(alloc: Global, sort: &str, name: &str) -> Result<String, Al
 }
 
 /// The key of an element's row.
-pub(crate) fn element_key(alloc: Global, sort: &str, key: &Key) -> Result<String, AllocError>
+pub fn element_key(alloc: Global, sort: &str, key: &Key) -> Result<String, AllocError>
     requires { IsPath key.now }
     ensures { IfOk result (λ it. string_bytes it ≡ sort.now ++ key_text key.now) }
 {
@@ -26,7 +26,7 @@ pub(crate) fn element_key(alloc: Global, sort: &str, key: &Key) -> Result<String
 }
 
 /// The key of the row of an element or an edge.
-pub(crate) fn any_key(alloc: Global, sort: &str, key: &AnyKey) -> Result<String, AllocError>
+pub fn any_key(alloc: Global, sort: &str, key: &AnyKey) -> Result<String, AllocError>
     requires { IsWritable key.now }
     ensures { IfOk result (λ it. string_bytes it ≡ sort.now ++ any_key_text key.now) }
 {

@@ -1,3 +1,5 @@
+ghost use Rattle.std.specs.Prelude.{◌≡◌};
+
 use wb_marks::Marks;
 use wb_metamodel::ObjectId;
 use wb_model::Model;
@@ -20,6 +22,21 @@ impl Drop for KeptState {
             revision: _,
             marks: _marks,
         } = self;
+    }
+}
+
+impl KeptState {
+    /// The model, the root element, the number of accepted commands and the marks.
+    pub fn into_parts(self) -> (Model, ObjectId, u64, Marks)
+        ensures { result ≡ (self.model, self.root, self.revision, self.marks) }
+    {
+        let KeptState {
+            model,
+            root,
+            revision,
+            marks,
+        } = self;
+        (model, root, revision, marks)
     }
 }
 

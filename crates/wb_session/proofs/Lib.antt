@@ -3,10 +3,12 @@ pub mod Edited
 pub mod First
 pub mod Goods
 pub mod Histories
+pub mod Keepable
 pub mod Lawful
 pub mod Lists
 pub mod Opened
 pub mod Restored
+pub mod Resumed
 pub mod Rooted
 pub mod Settling
 pub mod Showable

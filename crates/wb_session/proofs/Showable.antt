@@ -66,7 +66,7 @@ module _ (s : Scene) (answers : Told) where
   keys_grounded : All (HasGround all) all
   keys_grounded = All-append (HasGround all) (map Node (nodes s answers)) (map Edge (edges_of s answers)) elements_grounded edges_grounded
 
-  edges_are_joined : All JoinsPaths (edges_of s answers)
+  pub edges_are_joined : All JoinsPaths (edges_of s answers)
   edges_are_joined = edges_join_paths (between s.spec s.model (nodes s answers)) answers (nodes_are_paths s answers)
 
   keys_are_writable : All IsWritable all

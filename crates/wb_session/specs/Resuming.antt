@@ -1,5 +1,6 @@
 -- A session that goes on from a kept state.
-use Rattle.std.specs.Prelude.{ℕ, List, [], Option, Some, None, Result, Ok, Err, if◌then◌else◌}
+use Rattle.std.specs.Prelude.{◌≡◌, ℕ, List, [], Option, Some, None, Result, Ok, Err, if◌then◌else◌}
+use Rattle.wb_base.specs.Answering.{IsRefusal}
 use Rattle.wb_spec_check.specs.Checked.{Specification}
 use Rattle.wb_refresh.specs.Openings.{is_too_large}
 use Rattle.wb_refresh.specs.Outcomes.{Gives}
@@ -23,9 +24,9 @@ kept_subject spec kept = subject spec kept.model kept.root kept.marks.shown
 abbrev pub least_misplaced : Gives → Specification → KeptState → Option (List ℕ)
 least_misplaced gives spec kept = least (misplaced spec (declared_nodes gives (kept_subject spec kept)) (declared_edges gives (kept_subject spec kept)) kept.marks)
 
-abbrev pub unless_misplaced : Option (List ℕ) → State → Result State ResumeRefusal
-unless_misplaced None state = Ok state
-unless_misplaced (Some key) state = Err (Misplaced key)
+abbrev pub unless_misplaced : {A : Type 0} → Option (List ℕ) → A → Result A ResumeRefusal
+unless_misplaced None it = Ok it
+unless_misplaced (Some key) it = Err (Misplaced key)
 
 -- from a kept state, unless its diagram is too large, or a mark or a position stands where none can stand
 unfoldable pub resuming : Gives → Specification → KeptState → Result State ResumeRefusal
@@ -38,3 +39,8 @@ abbrev pub resume_named : ResumeRefusal → Option ResumeRefusal
 resume_named TooLarge = Some TooLarge
 resume_named (Misplaced key) = Some (Misplaced key)
 resume_named NoMemory = None
+
+-- a step on the way: what it resumes is this state
+abbrev pub Resumes : {A : Type 0} → Result State ResumeRefusal → State → Result A ResumeRefusal → Type 0
+Resumes given state (Ok _) = given ≡ Ok state
+Resumes given state (Err e) = IsRefusal (resume_named e) given

@@ -23,7 +23,8 @@ use wb_picture::opening_layers;
 use wb_refresh::Refresh;
 use wb_spec_check::CheckedViewpoint;
 
-const UNDO_STEPS: usize = 100;
+/// How many steps can be undone.
+pub(crate) const UNDO_STEPS: usize = 100;
 
 /// Why no session is opened.
 #[derive(Clone, Copy)]
