@@ -94,6 +94,15 @@ abbrev pub all_placed : Positions → List Item → Positions
 all_placed positions [] = positions
 all_placed positions (item ∷ items) = all_placed (placed_too positions item) items
 
+-- the marks, with what one more item says of them
+abbrev pub marked_too : Marks → Item → Marks
+marked_too marks (Object o r) = marks
+marked_too marks (Placed key at) = record marks { layout = placed marks.layout key at }
+marked_too marks (Shown key) = record marks { shown = marks.shown ++ key ∷ [] }
+marked_too marks (Hidden key) = record marks { hidden = marks.hidden ++ key ∷ [] }
+marked_too marks (Layer n) = record marks { layers = marks.layers ++ n ∷ [] }
+marked_too marks (Filter n) = record marks { filters = marks.filters ++ n ∷ [] }
+
 -- ---- the state
 
 abbrev pub parts_said : Metamodel → Said → List Part
@@ -102,14 +111,17 @@ parts_said mm said = flat_map (part_in mm) said.items
 abbrev pub model_said : Metamodel → Said → Contents
 model_said mm said = made_of mm said.next (parts_said mm said) said.roots
 
-abbrev pub marks_said : Said → Marks
-marks_said said = record {
-  shown = flat_map shown_in said.items;
-  hidden = flat_map hidden_in said.items;
-  layout = all_placed maps.empty said.items;
-  layers = flat_map layer_in said.items;
-  filters = flat_map filter_in said.items;
+abbrev pub marks_of : List Item → Marks
+marks_of items = record {
+  shown = flat_map shown_in items;
+  hidden = flat_map hidden_in items;
+  layout = all_placed maps.empty items;
+  layers = flat_map layer_in items;
+  filters = flat_map filter_in items;
 }
+
+abbrev pub marks_said : Said → Marks
+marks_said said = marks_of said.items
 
 unfoldable pub state_said : Metamodel → Said → KeptState
 state_said mm said = record { model = model_said mm said; root = said.root; revision = said.revision; marks = marks_said said }
