@@ -1,9 +1,8 @@
 -- A session that goes on from a kept state.
-use Rattle.std.proofs.Common.{◌≡◌, ℕ, Bool, true, false, cond, List, Option, Some, None, Result, Ok, Err, refl, sym, ap, ◌∙◌, arith}
-use Rattle.std.specs.Prelude.{IfSome, ⊤}
+use Rattle.std.proofs.Common.{◌≡◌, ℕ, Bool, true, false, cond, List, Option, Some, None, Result, Ok, Err, refl, sym, ap, subst, arith}
+use Rattle.std.specs.Prelude.{IfSome, IsErrAnd, ⊤}
 use Rattle.std.specs.FinMap.{get}
-use Rattle.wb_base.specs.Answering.{AsDefined, IsRefusal}
-use Rattle.wb_diagram.specs.declared.keys.EdgeKey.{EdgeKey}
+use Rattle.wb_base.specs.Answering.{IsRefusal}
 use Rattle.wb_diagram.specs.declared.keys.Key.{Key}
 use Rattle.wb_history.specs.Stacks.{unbegun}
 use Rattle.wb_layout.specs.Positions.{IsInRange}
@@ -13,10 +12,10 @@ use Rattle.wb_spec_check.specs.Checked.{Specification}
 use Rattle.wb_validity.specs.Valid.{IsValid}
 use Rattle.wb_declared.specs.Declarations.{declared_edges, declared_nodes}
 use Rattle.wb_rows.specs.declared.state.KeptState.{KeptState}
-use Rattle.wb_keeper.specs.Misplaced.{CanGoOn, least, misplaced}
+use Rattle.wb_keeper.specs.Misplaced.{CanGoOn}
 use Rattle.wb_session.specs.declared.resuming.ResumeRefusal.{ResumeRefusal}
 use Rattle.wb_session.specs.declared.resuming.ResumeRefusal.TheVariants.{TooLarge, Misplaced, NoMemory}
-use Rattle.wb_session.specs.Resuming.{kept_subject, least_misplaced, resume_named, resumed_state, resuming, unless_misplaced}
+use Rattle.wb_session.specs.Resuming.{Resumes, kept_subject, least_misplaced, resume_named, resumed_state, resuming, unless_misplaced}
 use Rattle.wb_session.specs.States.{State}
 use Rattle.wb_session.specs.invariants.Keeping.{IsKept}
 use Rattle.wb_session.proofs.WellPlaced.{stand_lawfully, stand_on_declared}
@@ -39,6 +38,11 @@ stands_by true found s fits is = absurd cc
 stands_by false None s fits is = refl
 stands_by false (Some found) s fits is = absurd cc
 
+-- a step that ends with this refusal
+pub gives_refusal : {A : Type 0} (given : Result State ResumeRefusal) (state : State) (result : Result A ResumeRefusal) (e : ResumeRefusal) → IsErrAnd result (λ other. other ≡ e) → IsRefusal (resume_named e) given → Resumes given state result
+gives_refusal given state (Ok x) e is h = absurd is
+gives_refusal given state (Err other) e is h = subst (λ (y : ResumeRefusal). IsRefusal (resume_named y) given) (sym is) h
+
 went_by : (b : Bool) (found : Option (List ℕ)) (s t : State) → (let x : Result State ResumeRefusal = cond b (Err TooLarge) (unless_misplaced found s) in x) ≡ Ok t → (b ≡ false) × (found ≡ None)
 went_by true found s t e = absurd cc
 went_by false None s t e = (refl, refl)
@@ -56,12 +60,6 @@ module _ (gives : Gives) (spec : Specification) (kept : KeptState) where
   went : resuming gives spec kept ≡ Ok (resumed_state spec kept) → (is_too_large gives (kept_subject spec kept) ≡ false) × (least_misplaced gives spec kept ≡ None)
   unfolding resuming
   went = went_by (is_too_large gives (kept_subject spec kept)) (least_misplaced gives spec kept) (resumed_state spec kept) (resumed_state spec kept)
-
-  -- the least of what is opened is that of what is declared
-  pub least_is : (diagram : Kept) → IsOpened gives (kept_subject spec kept) diagram → least (misplaced spec diagram.nodes diagram.edges kept.marks) ≡ least_misplaced gives spec kept
-  least_is diagram is =
-      ap (λ (ns : List Key). least (misplaced spec ns diagram.edges kept.marks)) is.nodes
-      ∙ ap (λ (es : List EdgeKey). least (misplaced spec (declared_nodes gives (kept_subject spec kept)) es kept.marks)) is.edges
 
   -- ---- the session
 

@@ -28,5 +28,6 @@ pub fn planned_can_be_written<E: Evaluator>(session: &Session<E>, planned: &Plan
     requires { Follows E.outcome_by session.now planned.now.model planned.now.marks planned.now.turn planned.now.diagram }
     ensures { CanBeWritten planned.now.marks }
 {
-    let _ = (session, planned);
+    let _ = session;
+    let _ = planned;
 }

@@ -13,6 +13,6 @@ invariant_of-result g c =
     let spec = c.args.spec in
     let kept = c.args.kept in
     let it = c.in-Ok.it in
-    subst (λ (p : Contents × ℕ × ℕ × Marks). IsKept gives spec p.1 p.0 p.3 p.2 it.history it.diagram) (sym c.into_parts.ensures)
+    subst (λ (p : Contents × ℕ × ℕ × Marks). IsKept gives spec p.1 p.0 p.3 p.2 it.history it.diagram) (sym c.into_parts-model.ensures)
     (subst (λ (h : Stacks Entry). IsKept gives spec kept.root kept.model kept.marks kept.revision h it.diagram) (sym c.in-Ok.ensures.history)
     (resumed_kept gives spec kept c.valid.ensures c.requires c.in-Ok.ensures.given c.keeps_in_range.ensures it.diagram c.in-Ok.ensures.diagram))
