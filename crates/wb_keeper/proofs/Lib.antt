@@ -1,4 +1,5 @@
-pub mod Least
 pub mod Places
 pub mod RootTexts
-pub mod WrongMarks
+pub mod Sorts
+pub mod Spelled
+pub mod Together

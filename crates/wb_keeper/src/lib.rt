@@ -6,7 +6,6 @@ mod heads;
 mod item_reading;
 mod items;
 mod keys;
-mod misplacing;
 mod numbers;
 mod objects;
 mod positions;
@@ -17,5 +16,4 @@ mod said;
 mod states;
 mod switches;
 
-pub use misplacing::misplaced;
 pub use refusal::StoreRefusal;

@@ -4,7 +4,7 @@ ghost use Rattle.wb_outer.specs.Keeper.{changed};
 ghost use Rattle.wb_rows.specs.Texts.{Ascend};
 ghost use Rattle.wb_session.specs.Opening.{root_element};
 ghost use Rattle.wb_spec_check.specs.Checked.{IsCheckedBy};
-ghost use Rattle.wb_keeper.specs.Misplaced.{CanGoOn};
+ghost use Rattle.wb_misplaced.specs.Misplaced.{CanGoOn};
 ghost use Rattle.wb_kept.specs.Opening.{OpensFrom, OpensOver, ResumesFrom, Settles, Starts, StartsFresh, StartsFromRows};
 ghost use Rattle.wb_kept.specs.declared.opening.StartRefusal.TheVariants.{NoMemory};
 

@@ -3,7 +3,6 @@ pub mod Edited
 pub mod First
 pub mod Goods
 pub mod Histories
-pub mod Keepable
 pub mod Lawful
 pub mod Lists
 pub mod Opened
@@ -16,4 +15,5 @@ pub mod Stepping
 pub mod Taking
 pub mod Tooled
 pub mod Undoing
+pub mod WellPlaced
 pub mod WritableMarks

@@ -12,7 +12,7 @@ use Rattle.wb_spec_check.specs.Checked.{Specification}
 use Rattle.wb_validity.specs.Valid.{IsValid}
 use Rattle.wb_declared.specs.Declarations.{declared_edges, declared_nodes}
 use Rattle.wb_rows.specs.declared.state.KeptState.{KeptState}
-use Rattle.wb_keeper.specs.Misplaced.{CanGoOn}
+use Rattle.wb_misplaced.specs.Misplaced.{CanGoOn}
 use Rattle.wb_session.specs.declared.resuming.ResumeRefusal.{ResumeRefusal}
 use Rattle.wb_session.specs.declared.resuming.ResumeRefusal.TheVariants.{TooLarge, Misplaced, NoMemory}
 use Rattle.wb_session.specs.Resuming.{Resumes, kept_subject, least_misplaced, resume_named, resumed_state, resuming, unless_misplaced}

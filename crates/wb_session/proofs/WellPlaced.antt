@@ -23,8 +23,8 @@ use Rattle.wb_marks.specs.declared.marks.Marks.{Marks}
 use Rattle.wb_targets.specs.Targets.{is_placeable, is_unsynchronised}
 use Rattle.wb_rows.specs.Rows.{position_row}
 use Rattle.wb_rows.proofs.Orders.{equal_of}
-use Rattle.wb_keeper.specs.Misplaced.{hidden_key, is_placed_right, is_shown_right, least, misplaced, placed_key, shown_key, wrong_keys}
-use Rattle.wb_keeper.proofs.Least.{by_keys}
+use Rattle.wb_misplaced.specs.Misplaced.{hidden_key, is_placed_right, is_shown_right, least, misplaced, placed_key, shown_key, wrong_keys}
+use Rattle.wb_misplaced.proofs.Least.{by_keys}
 use Rattle.wb_session.specs.States.{AreLawful}
 use Rattle.wb_session.proofs.Lists.{all_mapped}
 

@@ -7,7 +7,7 @@ use Rattle.wb_refresh.specs.Outcomes.{Gives}
 use Rattle.wb_refresh.specs.Subjects.{Subject, subject}
 use Rattle.wb_declared.specs.Declarations.{declared_edges, declared_nodes}
 use Rattle.wb_rows.specs.declared.state.KeptState.{KeptState}
-use Rattle.wb_keeper.specs.Misplaced.{least, misplaced}
+use Rattle.wb_misplaced.specs.Misplaced.{least, misplaced}
 use Rattle.wb_session.specs.declared.resuming.ResumeRefusal.{ResumeRefusal}
 use Rattle.wb_session.specs.declared.resuming.ResumeRefusal.TheVariants.{TooLarge, Misplaced, NoMemory}
 use Rattle.wb_session.specs.States.{State, body}

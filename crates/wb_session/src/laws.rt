@@ -1,13 +1,9 @@
 ghost use Rattle.std.specs.Prelude.{◌≡◌, Ok};
 ghost use Rattle.wb_diagram.specs.declared.commands.Command.{Command};
-ghost use Rattle.wb_rows.specs.States.{CanBeWritten};
 ghost use Rattle.wb_session.specs.Laws.{IsForward, redo, undo};
-ghost use Rattle.wb_session.specs.Planning.{Follows};
 ghost use Rattle.wb_session.specs.States.{IsGood, State};
 ghost use Rattle.wb_session.specs.Steps.{Stepped, step};
 
-use crate::planning::Planned;
-use crate::session::Session;
 use wb_aql_eval::Evaluator;
 
 /// A law: an undo after an accepted command, that is neither undo nor redo, gives the body before both.
@@ -22,12 +18,3 @@ pub fn redo_restores<E: Evaluator>()
         → step E.outcome_by s command ≡ Ok t → step E.outcome_by t.state (undo t.state.revision) ≡ Ok u
         → step E.outcome_by u.state (redo u.state.revision) ≡ Ok v → v.state.body ≡ t.state.body }
 {}
-
-/// A law: what is marked or placed in a planned state can be written.
-pub fn planned_can_be_written<E: Evaluator>(session: &Session<E>, planned: &Planned<E>)
-    requires { Follows E.outcome_by session.now planned.now.model planned.now.marks planned.now.turn planned.now.diagram }
-    ensures { CanBeWritten planned.now.marks }
-{
-    let _ = session;
-    let _ = planned;
-}

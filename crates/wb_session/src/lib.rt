@@ -25,7 +25,7 @@ mod turn;
 mod viewing;
 
 pub use accepted::Accepted;
-pub use laws::{planned_can_be_written, redo_restores, undo_restores};
+pub use laws::{redo_restores, undo_restores};
 pub use opening::{OpenRefusal, root_element};
 pub use planning::Planned;
 pub use refusal::Refusal;

@@ -1,7 +1,7 @@
 ghost use Rattle.std.specs.Prelude.{◌≡◌, false, IfErr, IfOk, OnOk};
 ghost use Rattle.wb_base.specs.Answering.{AsDefined, IsRefusal};
 ghost use Rattle.wb_history.specs.Stacks.{unbegun};
-ghost use Rattle.wb_keeper.specs.Misplaced.{CanGoOn};
+ghost use Rattle.wb_misplaced.specs.Misplaced.{CanGoOn};
 ghost use Rattle.wb_refresh.specs.Openings.{IsOpened, is_too_large};
 ghost use Rattle.wb_rows.specs.States.{CanBeWritten};
 ghost use Rattle.wb_spec_check.specs.Checked.{IsCheckedBy};
@@ -15,7 +15,7 @@ use std::alloc::{AllocError, AllocFailed, Global};
 use wb_answers::Stop;
 use wb_aql_eval::Evaluator;
 use wb_history::History;
-use wb_keeper::misplaced;
+use wb_misplaced::misplaced;
 use wb_outer::Bytes;
 use wb_refresh::Refresh;
 use wb_rows::KeptState;

@@ -21,13 +21,12 @@ use Rattle.wb_rows.specs.Rows.{hidden_row, position_row, shown_row}
 use Rattle.wb_rows.specs.States.{CanBeWritten}
 use Rattle.wb_rows.specs.Texts.{key_cmp}
 use Rattle.wb_rows.specs.declared.state.KeptState.{KeptState}
-use Rattle.wb_keeper.specs.Heads.{last_revision}
 
 -- a state that a session can go on from, once its diagram is known
 pub record CanGoOn (spec : Specification) (state : KeptState) : Type 0 where
   pub checked : IsCheckedBy state.model.metamodel spec
   pub rooted : conforms_to state.model spec.1.domain state.root ≡ true
-  pub revision : state.revision ≤ last_revision
+  pub revision : state.revision ≤ 9007199254740991
   pub distinct : AreDistinct state.marks
   pub writable : CanBeWritten state.marks
 

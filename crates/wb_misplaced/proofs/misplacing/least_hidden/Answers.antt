@@ -1,8 +1,8 @@
 use Rattle.std.proofs.Common.{◌∙◌}
 use Rattle.wb_marks.specs.Marks.{is_declared}
-use Rattle.wb_keeper.specs.Misplaced.{hidden_key}
-use Rattle.wb_keeper.proofs.Least.{one_more}
-use Rattle.wb_keeper.proofs.misplacing.least_hidden.Goals as goal
+use Rattle.wb_misplaced.specs.Misplaced.{hidden_key}
+use Rattle.wb_misplaced.proofs.Least.{one_more}
+use Rattle.wb_misplaced.proofs.misplacing.least_hidden.Goals as goal
 
 pub loop-key-preserved : goal.loop-key-preserved
 loop-key-preserved c =

@@ -1,7 +1,7 @@
 use Rattle.std.proofs.Common.{◌∙◌}
-use Rattle.wb_keeper.specs.Misplaced.{is_shown_right, shown_key}
-use Rattle.wb_keeper.proofs.Least.{one_more}
-use Rattle.wb_keeper.proofs.misplacing.least_shown.Goals as goal
+use Rattle.wb_misplaced.specs.Misplaced.{is_shown_right, shown_key}
+use Rattle.wb_misplaced.proofs.Least.{one_more}
+use Rattle.wb_misplaced.proofs.misplacing.least_shown.Goals as goal
 
 pub loop-key-preserved : goal.loop-key-preserved
 loop-key-preserved c =

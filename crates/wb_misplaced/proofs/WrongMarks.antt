@@ -17,8 +17,8 @@ use Rattle.wb_marks.specs.declared.settling.Declared.{Declared}
 use Rattle.wb_marks.proofs.SameOnes.{declared_alike}
 use Rattle.wb_targets.specs.Targets.{is_placeable, is_unsynchronised}
 use Rattle.wb_rows.specs.Rows.{position_row}
-use Rattle.wb_keeper.specs.Misplaced.{hidden_key, is_placed_right, is_shown_right, least, lesser_of, misplaced, placed_key, shown_key, wrong_keys}
-use Rattle.wb_keeper.proofs.Least.{by_keys, least_of_three}
+use Rattle.wb_misplaced.specs.Misplaced.{hidden_key, is_placed_right, is_shown_right, least, lesser_of, misplaced, placed_key, shown_key, wrong_keys}
+use Rattle.wb_misplaced.proofs.Least.{by_keys, least_of_three}
 
 -- the least of each sort, together
 pub together : (spec : Specification) (ns : List Key) (es : List EdgeKey) (m : Marks) (hidden placed shown : Option (List ℕ))

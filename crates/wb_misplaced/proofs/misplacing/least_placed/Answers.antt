@@ -1,9 +1,9 @@
 use Rattle.std.proofs.Common.{◌∙◌, sym}
 use Rattle.std.proofs.lemmas.Option.{get_or_from_slice_get, slice_get_within}
 use Rattle.std.specs.FinMap.{keys}
-use Rattle.wb_keeper.specs.Misplaced.{is_placed_right, placed_key}
-use Rattle.wb_keeper.proofs.Least.{one_more}
-use Rattle.wb_keeper.proofs.misplacing.least_placed.Goals as goal
+use Rattle.wb_misplaced.specs.Misplaced.{is_placed_right, placed_key}
+use Rattle.wb_misplaced.proofs.Least.{one_more}
+use Rattle.wb_misplaced.proofs.misplacing.least_placed.Goals as goal
 
 pub loop-i-preserved : goal.loop-i-preserved
 loop-i-preserved c =

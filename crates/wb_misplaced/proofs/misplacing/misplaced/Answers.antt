@@ -1,8 +1,8 @@
 use Rattle.std.proofs.Common.{◌≡◌, ℕ, List, Option, ap, subst}
 use Rattle.std.specs.Prelude.{IfOk}
-use Rattle.wb_keeper.specs.Misplaced.{least}
-use Rattle.wb_keeper.proofs.WrongMarks.{same_misplaced}
-use Rattle.wb_keeper.proofs.misplacing.misplaced.Goals as goal
+use Rattle.wb_misplaced.specs.Misplaced.{least}
+use Rattle.wb_misplaced.proofs.WrongMarks.{same_misplaced}
+use Rattle.wb_misplaced.proofs.misplacing.misplaced.Goals as goal
 
 pub returns : goal.returns
 returns c =

@@ -2,9 +2,9 @@ use Rattle.std.proofs.Common.{◌∙◌, ℕ, List, Option, ap}
 use Rattle.wb_diagram.specs.declared.keys.AnyKey.{AnyKey}
 use Rattle.wb_diagram.specs.declared.keys.Key.{Key}
 use Rattle.wb_marks.specs.Marks.{is_declared}
-use Rattle.wb_keeper.specs.Misplaced.{hidden_key, is_shown_right, least, lesser_of, shown_key, wrong_keys}
-use Rattle.wb_keeper.proofs.WrongMarks.{together}
-use Rattle.wb_keeper.proofs.misplacing.least_misplaced.Goals as goal
+use Rattle.wb_misplaced.specs.Misplaced.{hidden_key, is_shown_right, least, lesser_of, shown_key, wrong_keys}
+use Rattle.wb_misplaced.proofs.WrongMarks.{together}
+use Rattle.wb_misplaced.proofs.misplacing.least_misplaced.Goals as goal
 
 pub returns : goal.returns
 returns c =

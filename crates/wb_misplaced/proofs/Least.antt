@@ -9,7 +9,7 @@ use Rattle.std.specs.declared.cmp.Ordering.{Ordering}
 use Rattle.std.specs.declared.cmp.Ordering.TheVariants as c
 use Rattle.wb_rows.specs.Texts.{key_cmp}
 use Rattle.wb_rows.proofs.Orders.{key_total}
-use Rattle.wb_keeper.specs.Misplaced.{key_unless, least, lesser, lesser_of, wrong_keys}
+use Rattle.wb_misplaced.specs.Misplaced.{key_unless, least, lesser, lesser_of, wrong_keys}
 
 -- ---- of three keys
 

@@ -8,7 +8,7 @@ ghost use Rattle.wb_marks.specs.Marks.{is_declared};
 ghost use Rattle.wb_spec_check.specs.Units.{mapping_of_key};
 ghost use Rattle.wb_targets.specs.Targets.{is_unsynchronised};
 ghost use Rattle.wb_rows.specs.States.{CanBeWritten};
-ghost use Rattle.wb_keeper.specs.Misplaced.{hidden_key, is_placed_right, is_shown_right, key_unless, least, lesser, lesser_of, misplaced, placed_key, shown_key, wrong_keys};
+ghost use Rattle.wb_misplaced.specs.Misplaced.{hidden_key, is_placed_right, is_shown_right, key_unless, least, lesser, lesser_of, misplaced, placed_key, shown_key, wrong_keys};
 
 use std::alloc::{AllocError, Global};
 use wb_diagram::{AnyKey, EdgeKey, Key};
