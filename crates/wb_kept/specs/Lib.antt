@@ -1,4 +1,3 @@
 pub mod States
 pub mod Replies
 pub mod Keeping
-pub mod Opening

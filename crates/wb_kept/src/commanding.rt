@@ -1,9 +1,12 @@
 //! Commands: what is accepted is kept, and then is the session's state.
-ghost use Rattle.std.specs.Prelude.{◌≡◌};
+ghost use Rattle.std.specs.Prelude.{◌≡◌, None, Ok};
+ghost use Rattle.wb_http.specs.Replies.{fixed_status, fixed_text, response};
+ghost use Rattle.wb_http.specs.declared.replies.FixedReply.TheVariants.{BadBody};
 ghost use Rattle.wb_http.specs.declared.routes.Route.TheVariants.{Command as CommandRoute};
 ghost use Rattle.wb_session.specs.Planning.{Follows, stepped_to};
 ghost use Rattle.wb_session.specs.Steps.{step};
-ghost use Rattle.wb_kept.specs.Keeping.{IsAnswered, Commands};
+ghost use Rattle.wb_kept.specs.Keeping.{Commands, IsAnswered, Says};
+ghost use Rattle.wb_kept.specs.Replies.{step_reply};
 
 use crate::kept_session::KeptSession;
 use crate::preparing::prepare;
@@ -31,8 +34,7 @@ impl<E: Evaluator> KeptSession<E> {
     {
         match read_command(alloc, body) {
             Ok(command) => self.run(alloc, &command, close, keeper, steps),
-            Err(BodyRefusal::BadBody) => say_fixed(alloc, FixedReply::BadBody, close),
-            Err(BodyRefusal::NoMemory) => Answer::NoMemory,
+            Err(refusal) => refuse_body(alloc, refusal, close),
         }
     }
 
@@ -64,7 +66,8 @@ impl<E: Evaluator> KeptSession<E> {
         requires { Follows E.outcome_by self.old planned.model planned.marks planned.turn planned.diagram }
         ensures { Commands (step_reply self.old (Ok (stepped_to self.old planned.model planned.marks planned.turn planned.created))) self.old self.new (K.told keeper.old) (K.told keeper.new) close result }
     {
-        let Ok(prepared) = prepare(alloc, &self.session, self.rows.as_slice(), &planned, close) else {
+        let Ok(prepared) = prepare(alloc, &self.session, self.rows.as_slice(), &planned, close)
+        else {
             return Answer::NoMemory;
         };
         match keeper.commit(alloc, prepared.changes.as_slice()) {
@@ -76,5 +79,16 @@ impl<E: Evaluator> KeptSession<E> {
             Committed::Failed => Answer::Unkept,
             Committed::NoMemory => Answer::NoMemory,
         }
+    }
+}
+
+// The reply to a body that has no command; want of memory has none.
+fn refuse_body(alloc: Global, refusal: BodyRefusal, close: bool) -> Answer
+    ensures says { refusal ≡ BodyRefusal.BadBody → Says (response (fixed_status BadBody) None close (fixed_text BadBody)) result }
+    ensures memory { refusal ≡ BodyRefusal.NoMemory → result ≡ Answer.NoMemory }
+{
+    match refusal {
+        BodyRefusal::BadBody => say_fixed(alloc, FixedReply::BadBody, close),
+        BodyRefusal::NoMemory => Answer::NoMemory,
     }
 }

@@ -26,13 +26,16 @@ impl<E: Evaluator> Drop for KeptSession<E> {
 
 impl<E: Evaluator> std::marker::Model for KeptSession<E> {
     ghost use Rattle.std.specs.Prelude.{◌≡◌};
-    ghost use Rattle.wb_session.specs.contracts.session.Session as the_session;
+    ghost use Rattle.wb_marks.specs.contracts.marks.Marks as the_marks;
+    ghost use Rattle.wb_model.specs.contracts.model.Model as the_model;
+    ghost use Rattle.wb_spec_check.specs.contracts.checked_viewpoint.CheckedViewpoint as the_spec;
     ghost use Rattle.wb_session.specs.States.{State};
+    ghost use Rattle.wb_session.specs.invariants.Keeping.{body_code, state_code};
     ghost use Rattle.wb_kept.specs.States.{state_rows};
 
     ghost Value = { State };
 
-    ghost coded = { the_session.the_row.coded };
+    ghost coded = { state_code the_spec.the_row.coded (body_code the_model.the_row.coded the_marks.the_row.coded) };
 
     ghost view = { λ k. k.session };
 

@@ -5,10 +5,8 @@ mod commanding;
 mod elements;
 mod kept_session;
 mod machine;
-mod opening;
 mod preparing;
 mod replying;
 
 pub use kept_session::KeptSession;
 pub use machine::Server;
-pub use opening::StartRefusal;

@@ -1,5 +1,6 @@
 //! All that an accepted command takes memory for, before the keeper is asked.
-ghost use Rattle.std.specs.Prelude.{◌≡◌, IfOk};
+ghost use Rattle.std.specs.Prelude.{◌≡◌, ◌+◌, ◌++◌, codes, decimal, IfOk, None, OnOk, Some, string_bytes};
+ghost use Rattle.wb_http.specs.Replies.{response};
 ghost use Rattle.wb_rows.specs.Texts.{Ascend};
 ghost use Rattle.wb_session.specs.Planning.{Follows, state_after};
 ghost use Rattle.wb_kept.specs.Keeping.{IsPrepared};
@@ -12,7 +13,7 @@ use wb_base::{List, Text};
 use wb_http::write_response;
 use wb_metamodel::ObjectId;
 use wb_outer::{Bytes, Row, RowChange};
-use wb_rows::{StateParts, changes, write_rows};
+use wb_rows::{StateParts, changes, rows_ascend, write_rows};
 use wb_session::{Planned, Session};
 
 /// What is kept and answered of a command, made whole before anything changes.
@@ -35,6 +36,7 @@ pub(crate) fn prepare<E: Evaluator>(
     requires follows { Follows E.outcome_by session.now planned.now.model planned.now.marks planned.now.turn planned.now.diagram }
     ensures { let s = state_after session.now planned.now.model planned.now.marks planned.now.turn in IfOk result (IsPrepared session.now s planned.now.created close) }
 {
+    rows_ascend();
     let revision = session.revision() + 1;
     let after = rows_after(alloc, session, planned, revision)?;
     let changes = changes(alloc, rows, after.as_slice())?;
@@ -58,6 +60,7 @@ fn rows_after<E: Evaluator>(
     ensures rows { IfOk result (λ rows. rows ≡ state_rows (state_after session.now planned.now.model planned.now.marks planned.now.turn)) }
     ensures ascend { IfOk result Ascend }
 {
+    session.planned_can_be_written(planned);
     let state = StateParts {
         model: &planned.model,
         root: session.root(),
@@ -80,7 +83,6 @@ fn accepted_reply(
     write_response(alloc, 200, None, close, body.as_bytes())
 }
 
-#[tactic(auto, unfolding(crate::specs::Replies::accepted_text))]
 fn accepted_text(
     alloc: Global,
     created: Option<ObjectId>,
@@ -89,10 +91,32 @@ fn accepted_text(
     ensures { IfOk result (λ text. string_bytes text ≡ accepted_text created revision) }
 {
     match created {
-        Some(object) => {
-            let number = object.0;
-            format!(in alloc; "{{\"created\":{number},\"revision\":{revision}}}")
-        }
-        None => format!(in alloc; "{{\"revision\":{revision}}}"),
+        Some(object) => created_text(alloc, object.0, revision),
+        None => plain_text(alloc, revision),
     }
+}
+
+// With the number of the object that was made.
+#[tactic(auto, unfolding(crate::specs::Replies::accepted_text))]
+fn created_text(alloc: Global, object: u32, revision: u64) -> Result<String, AllocError>
+    ensures { IfOk result (λ text. string_bytes text ≡ accepted_text (Some object) revision) }
+{
+    let mut text = format!(in alloc; "{{\"created\":{object}")?;
+    push_revision(&mut text, revision)?;
+    Ok(text)
+}
+
+fn push_revision(text: &mut String, revision: u64) -> Result<(), AllocError>
+    ensures { OnOk result (string_bytes text.new ≡ string_bytes text.old ++ codes ",\"revision\":" ++ decimal revision ++ codes "}") }
+{
+    text.push_str(",\"revision\":")?;
+    write!(text, "{revision}")?;
+    text.push_str("}")
+}
+
+#[tactic(auto, unfolding(crate::specs::Replies::accepted_text))]
+fn plain_text(alloc: Global, revision: u64) -> Result<String, AllocError>
+    ensures { IfOk result (λ text. string_bytes text ≡ accepted_text None revision) }
+{
+    format!(in alloc; "{{\"revision\":{revision}}}")
 }
