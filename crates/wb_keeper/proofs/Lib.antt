@@ -1,3 +1,4 @@
+pub mod GoingOn
 pub mod Places
 pub mod RootTexts
 pub mod Sorts

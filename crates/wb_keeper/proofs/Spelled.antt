@@ -122,7 +122,7 @@ all_features mm rows (p ∷ parts) all = and_from _ _ all.0.features (all_featur
 -- ---- their numbers
 
 -- a key below those of rows is not among them
-key_lacks : (key : List ℕ) (rows : List Row) → T (below_all key_cmp key (map entry_of rows)) → has_key rows key ≡ false
+pub key_lacks : (key : List ℕ) (rows : List Row) → T (below_all key_cmp key (map entry_of rows)) → has_key rows key ≡ false
 key_lacks key [] below = refl
 key_lacks key (row ∷ rows) below =
     or_from _ _ (texts_ties row.key key ∙ (above key row.key (left_of _ (below_all key_cmp key (map entry_of rows)) below)).0)
