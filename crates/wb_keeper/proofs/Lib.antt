@@ -1,6 +1,10 @@
+pub mod Alone
 pub mod GoingOn
 pub mod Places
 pub mod RootTexts
+pub mod RowKeys
+pub mod Shown
 pub mod Sorts
 pub mod Spelled
+pub mod Tally
 pub mod Together

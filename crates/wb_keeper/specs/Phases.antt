@@ -1,5 +1,5 @@
 -- The wrong key of rows: first each row by itself, in order; then the model that they spell; then its root element.
-use Rattle.std.specs.Prelude.{◌≡◌, ℕ, ◌<◌, ◌^◌, ◌⊎◌, Bool, true, not, nat_eq, nat_lt, All, List, [], ◌∷◌, ◌++◌, map, filter, length, Some, None, Result, Ok, Err, ⊤, codes, decimal, if◌then◌else◌}
+use Rattle.std.specs.Prelude.{◌≡◌, ℕ, zero, suc, ◌<◌, ◌^◌, ◌⊎◌, Bool, true, not, nat_eq, nat_lt, All, List, [], ◌∷◌, ◌++◌, map, filter, length, Some, None, Result, Ok, Err, ⊤, codes, decimal, if◌then◌else◌}
 use Rattle.std.specs.List.{IsDistinct, list_any, position_or_len}
 use Rattle.std.specs.List.Sorted.{IsPermutation}
 use Rattle.std.specs.Ordering.{is_lt}
@@ -53,15 +53,21 @@ pub record HasTooMany (rows : List Row) : Type 0 where
   pub kept : All (λ n. (n < 2 ^ 32) × (has_key rows (codes "o/" ++ decimal n) ≡ true)) numbers
   pub many : 20000 < length numbers
 
--- the row is exactly what is written of something
-pub data IsRight (spec : Specification) (mm : Metamodel) (rows : List Row) : (key text : List ℕ) → Type 0 where
-  version : IsRight spec mm rows version_row.key version_row.text
-  names : IsRight spec mm rows (spec_row mm spec.0).key (spec_row mm spec.0).text
-  root : {text : List ℕ} (n : ℕ) → IsNumber last_id text n → IsRight spec mm rows (codes "root") text
-  next : {text : List ℕ} (n : ℕ) → IsNumber last_id text n → IsRight spec mm rows (codes "next") text
-  revision : {text : List ℕ} (n : ℕ) → IsNumber last_revision text n → IsRight spec mm rows (codes "revision") text
-  roots : {text : List ℕ} (os : List ℕ) → AreRoots text os → ¬ (HasTooMany rows) → IsRight spec mm rows (codes "roots") text
-  other : {key text : List ℕ} (item : Item) → Says spec mm (row key text) item → IsRight spec mm rows key text
+-- the text is exactly what is written of something at the key, which has this place
+abbrev pub IsRightAt : Specification → Metamodel → List Row → (key text : List ℕ) → (place : ℕ) → Type 0
+IsRightAt spec mm rows key text zero = text ≡ version_row.text
+IsRightAt spec mm rows key text (suc zero) = text ≡ (spec_row mm spec.0).text
+-- root, next and revision
+IsRightAt spec mm rows key text (suc (suc zero)) = (n : ℕ) × IsNumber last_id text n
+IsRightAt spec mm rows key text (suc (suc (suc zero))) = (n : ℕ) × IsNumber last_id text n
+IsRightAt spec mm rows key text (suc (suc (suc (suc zero)))) = (n : ℕ) × IsNumber last_revision text n
+-- roots
+IsRightAt spec mm rows key text (suc (suc (suc (suc (suc zero))))) = (os : List ℕ) × (AreRoots text os × ¬ (HasTooMany rows))
+-- the other keys
+IsRightAt spec mm rows key text (suc (suc (suc (suc (suc (suc place)))))) = (item : Item) × Says spec mm (row key text) item
+
+abbrev pub IsRight : Specification → Metamodel → List Row → (key text : List ℕ) → Type 0
+IsRight spec mm rows key text = IsRightAt spec mm rows key text (place key)
 
 -- the key stands once, and its row is right
 abbrev pub StandsRight : Specification → Metamodel → List Row → (key : List ℕ) → Type 0

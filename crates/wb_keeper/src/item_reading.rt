@@ -39,8 +39,8 @@ pub(crate) fn read_item(
     }
 }
 
-// The letter of a row's sort, and what stands behind the slash.
-fn parts(key: &[u8]) -> Option<(u8, &[u8])>
+/// The letter of a row's sort, and what stands behind the slash.
+pub(crate) fn parts(key: &[u8]) -> Option<(u8, &[u8])>
     ensures found { IfSome result (λ p. key.now ≡ p.0 ∷ 47 ∷ p.1.now) }
     ensures none { result ≡ None → (sort : ℕ) (name : List ℕ) → ¬ (key.now ≡ sort ∷ 47 ∷ name) }
 {
