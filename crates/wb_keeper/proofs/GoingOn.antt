@@ -1,6 +1,6 @@
 -- A session can go on from what rows spell: nothing is marked or switched twice, and each key can be written.
 use Rattle.std.proofs.Common.{◌≡◌, ℕ, zero, suc, ◌<◌, ◌≤◌, ◌⊎◌, inl, inr, Bool, true, false, cond, List, [], ◌∷◌, ◌++◌, length, get_or, Option, Some, None, IsSome, refl, sym, ap, ◌∙◌, subst, codes}
-use Rattle.std.specs.Prelude.{All, nat_eq, option_map, if◌then◌else◌}
+use Rattle.std.specs.Prelude.{All, nat_eq, option_map, if◌then◌else◌, IfOk, Result, Ok, Err}
 use Rattle.std.specs.Cmp.{eq_by_cmp_equiv}
 use Rattle.std.specs.FinMap.{contains_key-keys, empty, get, get-empty, get-insert, keys}
 use Rattle.std.specs.List.{AllByRecursion, IsDistinct, flat_map, position, slice_get}
@@ -39,7 +39,9 @@ use Rattle.wb_rows.specs.declared.state.KeptState.{KeptState}
 use Rattle.wb_rows.proofs.Orders.{first_below, rest_ascend, same_text}
 use Rattle.wb_misplaced.specs.Misplaced.{CanGoOn}
 use Rattle.wb_keeper.specs.Items.{IsFilter, IsLayer, Says}
-use Rattle.wb_keeper.specs.Phases.{SayAll, Spell, has_key}
+use Rattle.wb_keeper.specs.Phases.{Makes, Reads, SayAll, Spell, has_key}
+use Rattle.wb_keeper.specs.declared.refusal.StoreRefusal.{StoreRefusal}
+use Rattle.wb_keeper.specs.declared.refusal.StoreRefusal.TheVariants.{At, NoMemory}
 use Rattle.wb_keeper.specs.Said.{all_placed, breach_said, filter_in, hidden_in, key_of_breach, layer_in, marks_of, marks_said, model_said, shown_in, state_said, unrooted, wrong_together}
 use Rattle.wb_keeper.specs.declared.items.Item.{Item}
 use Rattle.wb_keeper.specs.declared.items.Item.TheVariants.{Object, Placed, Shown, Hidden, Layer, Filter}
@@ -73,9 +75,10 @@ module _ {A : Type 0} (spec : Specification) (mm : Metamodel) (eq : A → A → 
 
   apart_from : (row : Row) (rows : List Row) (x : A) → Keyed x row.key → has_key rows row.key ≡ false → (xs : List A) → AllByRecursion (IsAmong rows) xs → AllByRecursion (λ y. eq x y ≡ false) xs
   apart_from row rows x keyed none [] all = tt
-  apart_from row rows x keyed none (y ∷ ys) all =
-      (false_from_ne_true _ (λ again. both_ways _ none (subst (λ k. has_key rows k ≡ true) (sym (same_keys x y row.key all.0.key again keyed all.0.keyed)) all.0.kept)),
-       apart_from row rows x keyed none ys all.1)
+  apart_from row rows x keyed none (y ∷ ys) all = (
+    false_from_ne_true _ (λ again. both_ways _ none (subst (λ k. has_key rows k ≡ true) (sym (same_keys x y row.key all.0.key again keyed all.0.keyed)) all.0.kept)),
+    apart_from row rows x keyed none ys all.1,
+  )
 
   all_distinct : (rows : List Row) (items : List Item) → SayAll spec mm rows items → Ascend rows → IsDistinct eq (flat_map in_item items)
   unfolding IsDistinct
@@ -268,3 +271,13 @@ module _ (spec : Specification) (mm : Metamodel) (rows : List Row) (said : Said)
   pub can_go_on : IsCheckedBy mm spec → wrong_together spec mm said ≡ None → CanGoOn spec (state_said mm said)
   unfolding state_said
   can_go_on checked right = record { checked = checked; rooted = rooted right; revision = spell.revision.2.0; distinct = distinct; writable = writable }
+
+  -- what is made of what the rows say is the answer of the whole reading
+  pub read_whole : (answer : Result KeptState StoreRefusal) → Makes spec mm said answer → Reads spec mm rows answer
+  read_whole (Ok state) makes = (said, spell, makes.0, makes.1)
+  read_whole (Err (At key)) makes = inr (said, spell, makes)
+  read_whole (Err NoMemory) makes = tt
+
+  pub read_goes_on : IsCheckedBy mm spec → (answer : Result KeptState StoreRefusal) → Makes spec mm said answer → IfOk answer (CanGoOn spec)
+  read_goes_on checked (Ok state) makes = subst (λ (s : KeptState). CanGoOn spec s) (sym makes.1) (can_go_on checked makes.0)
+  read_goes_on checked (Err refusal) makes = tt
