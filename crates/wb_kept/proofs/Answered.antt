@@ -1,5 +1,5 @@
 -- What is answered, by what is due.
-use Rattle.std.proofs.Common.{◌≡◌, ◌∙◌, ◌⊎◌, inl, inr, ℕ, ◌≤◌, Bool, List, [], Option, None, Some, Result, Ok, Err, refl, sym, ap, subst, arith}
+use Rattle.std.proofs.Common.{◌≡◌, ◌∙◌, ◌⊎◌, inl, inr, ℕ, Bool, List, Option, None, Some, Result, Ok, Err, refl, sym, ap, subst, arith}
 use Rattle.std.specs.Prelude.{option_map}
 use Rattle.wb_base.specs.Answering.{IsRefusal}
 use Rattle.wb_outer.specs.Keeper.{Commits, KeeperTold, changed}
@@ -22,13 +22,12 @@ use Rattle.wb_http.specs.Replies.{fixed_status, fixed_text, response}
 use Rattle.wb_http.specs.declared.replies.FixedReply.TheVariants as fixed
 use Rattle.wb_http.specs.declared.routes.Route.{Route}
 use Rattle.wb_http.specs.declared.routes.Route.TheVariants as route
-use Rattle.wb_serving.specs.Machines.{Answers, Outcome, is_fine, text_of}
+use Rattle.wb_serving.specs.Machines.{Outcome, is_fine, text_of}
 use Rattle.wb_serving.specs.Turns.{fixed_outcome}
 use Rattle.wb_serving.specs.declared.machine.Answer.{Answer}
 use Rattle.wb_serving.specs.declared.machine.Answer.TheVariants.{Made, NoMemory, Unkept}
-use Rattle.wb_kept.specs.Keeping.{Commands, IsAnswered, IsPrepared, Says, told_with}
-use Rattle.wb_kept.specs.Replies.{accepted_text, command_reply, element_reply, law, refusal_status, reply, step_reply, text_named}
-use Rattle.wb_kept.specs.States.{state_rows}
+use Rattle.wb_kept.specs.Keeping.{Commands, IsAnswered, IsPrepared, Says}
+use Rattle.wb_kept.specs.Replies.{command_reply, element_reply, refusal_status, reply, step_reply, text_named}
 use Rattle.wb_kept.specs.declared.preparing.Prepared.{Prepared}
 
 -- ---- commands

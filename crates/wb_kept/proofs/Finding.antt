@@ -1,5 +1,5 @@
 -- What a search finds.
-use Rattle.std.proofs.Common.{◌≡◌, ◌∙◌, List, Option, Some, sym, subst}
+use Rattle.std.proofs.Common.{◌≡◌, ◌∙◌, List, Some, sym, subst}
 use Rattle.std.specs.Prelude.{All, Bool, find}
 use Rattle.std.specs.List.{position_or_len}
 use Rattle.std.proofs.lemmas.List.Folds.{find_at}

@@ -1,5 +1,5 @@
 -- The rows of a state, by its parts.
-use Rattle.std.proofs.Common.{◌≡◌, ℕ, sym, subst}
+use Rattle.std.proofs.Common.{◌≡◌, ℕ}
 use Rattle.wb_store.specs.Contents.{Contents}
 use Rattle.wb_marks.specs.declared.marks.Marks.{Marks}
 use Rattle.wb_spec_check.specs.Checked.{Specification}

@@ -3,7 +3,6 @@ use Rattle.std.specs.Prelude.{◌≡◌, ℕ, ◌≤◌, ⊤, Bool, List, None, 
 use Rattle.std.specs.Borrow.{GName}
 use Rattle.wb_outer.specs.Faults.{Rose}
 use Rattle.wb_outer.specs.Keeper.{KeeperTold, changed}
-use Rattle.wb_outer.specs.declared.keeper.Row.{Row}
 use Rattle.wb_refresh.specs.Outcomes.{Gives}
 use Rattle.wb_session.specs.States.{State}
 use Rattle.wb_http.specs.Replies.{response}

@@ -5,8 +5,13 @@ mod commanding;
 mod elements;
 mod kept_session;
 mod machine;
+mod opening;
 mod preparing;
+mod refusal;
 mod replying;
+mod settling;
+mod starting;
 
 pub use kept_session::KeptSession;
 pub use machine::Server;
+pub use refusal::StartRefusal;

@@ -1,53 +1,21 @@
 //! A session over a keeper: from its rows, or from a model where it has none.
-ghost use Rattle.std.specs.Prelude.{◌≡◌, ◌++◌, ◌≢◌, [], IfOk, IsSome, map, true, false};
-ghost use Rattle.wb_outer.specs.Keeper.{changed};
-ghost use Rattle.wb_rows.specs.Texts.{Ascend};
+ghost use Rattle.std.specs.Prelude.{◌≡◌, ◌≢◌, IfErr, IsSome};
 ghost use Rattle.wb_session.specs.Opening.{root_element};
 ghost use Rattle.wb_spec_check.specs.Checked.{IsCheckedBy};
-ghost use Rattle.wb_misplaced.specs.Misplaced.{CanGoOn};
-ghost use Rattle.wb_kept.specs.Opening.{OpensFrom, OpensOver, ResumesFrom, Settles, Starts, StartsFresh, StartsFromRows};
-ghost use Rattle.wb_kept.specs.declared.opening.StartRefusal.TheVariants.{NoMemory};
+ghost use Rattle.wb_kept.specs.Opening.{OpensFrom, OpensOver, Starts, StartsFromRows, of_store};
 
 use crate::kept_session::{KeptSession, rows_now};
-use std::alloc::{AllocError, AllocFailed, Global};
+use crate::refusal::StartRefusal;
+use crate::settling::settle;
+use crate::starting::{resume, start_fresh};
+use std::alloc::Global;
 use wb_aql_eval::Evaluator;
-use wb_base::{Duplicate, List};
+use wb_base::Duplicate;
 use wb_keeper::{StoreRefusal, read_rows};
 use wb_model::Model;
-use wb_outer::{Bytes, Committed, Keeper, Loaded, Row, RowChange};
-use wb_rows::{KeptState, changes};
-use wb_session::{OpenRefusal, ResumeRefusal, Session, root_element};
+use wb_outer::{Keeper, Loaded, Row};
+use wb_session::{Session, root_element};
 use wb_spec_check::CheckedViewpoint;
-
-/// Why no session is opened over a keeper.
-#[derive(Drop)]
-pub enum StartRefusal {
-    /// No root of the model is of the diagram's domain class.
-    NoRoot,
-    /// The diagram has too many units, elements and edges, or weighs too much.
-    TooLarge,
-    /// The key of the kept row that is wrong.
-    BadStore(Bytes),
-    /// The keeper failed.
-    Keeper,
-    NoMemory,
-}
-
-impl From<AllocError> for StartRefusal {
-    ghost from_gives = { λ _ e. e ≡ NoMemory };
-
-    fn from(_error: AllocError) -> Self {
-        StartRefusal::NoMemory
-    }
-}
-
-impl<T: Drop> From<AllocFailed<T>> for StartRefusal {
-    ghost from_gives = { λ _ e. e ≡ NoMemory };
-
-    fn from(_error: AllocFailed<T>) -> Self {
-        StartRefusal::NoMemory
-    }
-}
 
 impl<E: Evaluator> KeptSession<E> {
     /// A session from the keeper's rows, or from the model where it has none; the keeper has its rows then. Where none is
@@ -116,30 +84,13 @@ fn start<E: Evaluator>(
 ) -> Result<Session<E>, StartRefusal>
     requires checked { IsCheckedBy model.metamodel spec }
     requires root { IsSome (root_element model spec.1.domain) }
-    ensures { Starts E.outcome_by spec model rows.now result }
+    ensures starts { Starts E.outcome_by spec model rows.now result }
+    ensures own { IfErr result (λ refusal. refusal ≢ StartRefusal.Keeper) }
 {
     if rows.is_empty() {
         start_fresh(alloc, spec, model, steps)
     } else {
         start_from(alloc, spec, model, rows, steps)
-    }
-}
-
-fn start_fresh<E: Evaluator>(
-    alloc: Global,
-    spec: CheckedViewpoint,
-    model: Model,
-    steps: &mut E,
-) -> Result<Session<E>, StartRefusal>
-    requires checked { IsCheckedBy model.metamodel spec }
-    requires root { IsSome (root_element model spec.1.domain) }
-    ensures { StartsFresh E.outcome_by spec model result }
-{
-    match Session::open(alloc, spec, model, steps) {
-        Ok(session) => Ok(session),
-        Err(OpenRefusal::NoRoot) => Err(StartRefusal::NoRoot),
-        Err(OpenRefusal::TooLarge) => Err(StartRefusal::TooLarge),
-        Err(OpenRefusal::NoMemory) => Err(StartRefusal::NoMemory),
     }
 }
 
@@ -151,75 +102,22 @@ fn start_from<E: Evaluator>(
     steps: &mut E,
 ) -> Result<Session<E>, StartRefusal>
     requires { IsCheckedBy model.metamodel spec }
-    ensures { StartsFromRows E.outcome_by spec model.metamodel rows.now result }
+    ensures starts { StartsFromRows E.outcome_by spec model.metamodel rows.now result }
+    ensures own { IfErr result (λ refusal. refusal ≢ StartRefusal.Keeper) }
 {
     let metamodel = model.metamodel().copy(alloc)?;
     match read_rows(alloc, rows, &spec, metamodel) {
         Ok(kept) => resume(alloc, spec, kept, steps),
-        Err(StoreRefusal::At(key)) => Err(StartRefusal::BadStore(key)),
-        Err(StoreRefusal::NoMemory) => Err(StartRefusal::NoMemory),
+        Err(refusal) => Err(of_store(refusal)),
     }
 }
 
-fn resume<E: Evaluator>(
-    alloc: Global,
-    spec: CheckedViewpoint,
-    kept: KeptState,
-    steps: &mut E,
-) -> Result<Session<E>, StartRefusal>
-    requires { CanGoOn spec kept }
-    ensures { ResumesFrom E.outcome_by spec kept result }
+fn of_store(refusal: StoreRefusal) -> StartRefusal
+    ensures value { result ≡ of_store refusal }
+    ensures own { result ≢ StartRefusal.Keeper }
 {
-    match Session::resume(alloc, spec, kept, steps) {
-        Ok(session) => Ok(session),
-        Err(ResumeRefusal::TooLarge) => Err(StartRefusal::TooLarge),
-        Err(ResumeRefusal::Misplaced(key)) => Err(StartRefusal::BadStore(key)),
-        Err(ResumeRefusal::NoMemory) => Err(StartRefusal::NoMemory),
+    match refusal {
+        StoreRefusal::At(key) => StartRefusal::BadStore(key),
+        StoreRefusal::NoMemory => StartRefusal::NoMemory,
     }
-}
-
-// Keeps these rows in place of those that were loaded, unless they are the same.
-fn settle<K: Keeper>(
-    alloc: Global,
-    keeper: &mut K,
-    loaded: &[Row],
-    rows: &[Row],
-) -> Result<(), StartRefusal>
-    requires { Ascend rows.now }
-    ensures { Settles loaded.now rows.now (K.told keeper.old) (K.told keeper.new) result }
-{
-    if are_same(loaded, rows) {
-        return Ok(());
-    }
-    let changes = replacing(alloc, loaded, rows)?;
-    match keeper.commit(alloc, changes.as_slice()) {
-        Committed::Done => Ok(()),
-        Committed::Failed => Err(StartRefusal::Keeper),
-        Committed::NoMemory => Err(StartRefusal::NoMemory),
-    }
-}
-
-fn are_same(loaded: &[Row], rows: &[Row]) -> bool
-    ensures { result ≡ true → loaded.now ≡ rows.now }
-{
-    loaded.len() == rows.len()
-        && loaded
-            .iter()
-            .zip(rows)
-            .all(|(one, other)| one.key == other.key && one.text == other.text)
-}
-
-// The changes that erase all loaded rows and put these.
-fn replacing(alloc: Global, loaded: &[Row], rows: &[Row]) -> Result<List<RowChange>, AllocError>
-    requires { Ascend rows.now }
-    ensures { IfOk result (λ it. changed it loaded.now ≡ rows.now) }
-{
-    let mut all = Vec::new(alloc);
-    for row in loaded {
-        all.push(RowChange::Erase(row.key.copy(alloc)?))?;
-    }
-    for change in changes(alloc, &[], rows)?.into_vec() {
-        all.push(change)?;
-    }
-    Ok(List::from_vec(all))
 }
