@@ -9,12 +9,21 @@ use Rattle.wb_store.specs.Contents.{Contents}
 use Rattle.wb_spec_check.specs.Checked.{Specification}
 use Rattle.wb_refresh.specs.Outcomes.{Gives}
 use Rattle.wb_session.specs.States.{State}
-use Rattle.wb_kept.specs.Opening.{IsKept, Opens, OpensFrom, OpensOver, Starts, StartsFromRows}
+use Rattle.wb_metamodel.specs.Metamodel.{Metamodel}
+use Rattle.wb_keeper.specs.Phases.{Reads}
+use Rattle.wb_keeper.specs.declared.refusal.StoreRefusal.{StoreRefusal}
+use Rattle.wb_keeper.specs.declared.refusal.StoreRefusal.TheVariants.{At, NoMemory as NoMemoryToRead}
+use Rattle.wb_kept.specs.Opening.{IsKept, IsUnread, of_store, Opens, OpensFrom, OpensOver, Starts, StartsFromRows}
 use Rattle.wb_kept.specs.Settling.{Settles}
 use Rattle.wb_kept.specs.Starting.{StartsFresh}
 use Rattle.wb_kept.specs.States.{state_rows}
 use Rattle.wb_kept.specs.declared.refusal.StartRefusal.{StartRefusal}
 use Rattle.wb_kept.specs.declared.refusal.StartRefusal.TheVariants.{Keeper, NoMemory}
+
+-- what no reading gives is told by its key
+pub unread : (spec : Specification) (mm : Metamodel) (rows : List Row) (refusal : StoreRefusal) → Reads spec mm rows (Err refusal) → IsUnread spec mm rows (Err (of_store refusal))
+unread spec mm rows (At key) reads = reads
+unread spec mm rows NoMemoryToRead reads = tt
 
 module _ (gives : Gives) (spec : Specification) (m : Contents) where
   -- want of memory and a keeper that failed say nothing of what starts
